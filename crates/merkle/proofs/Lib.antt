@@ -1,0 +1,4 @@
+mod Parts
+pub mod Seen
+mod Walks
+mod Nodes

@@ -1,0 +1,3 @@
+mod Laws
+mod Blocks
+pub mod Lengths
