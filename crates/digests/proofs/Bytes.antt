@@ -6,10 +6,10 @@ use Prim.Native.Nat.{ℕ, _*_, _/_, _%_, _^_}
 use native.Mathlib.Omega.{arith}
 use lib.ListN.{length}
 use Rattle.std.specs.Joined.{joined}
-use Rattle.std.proofs.shelf.Tests.{and-from, lt-ltb}
+use Rattle.std.proofs.shelf.Tests.{and-from, lt-ltb, eq-eqb}
 use Rattle.sha256.specs.Sha256.{H₀, be32, pad, hash, sha256}
 use Rattle.sha256.proofs.Lengths.{hash-length}
-use Rattle.merkle.specs.Bytes.{allBytes, IsDigest}
+use Rattle.merkle.specs.Bytes.{allBytes, Whole}
 
 joined-length : (s : List ℕ) → length (joined be32 s) ≡ 4 * length s
 joined-length [] = refl
@@ -22,6 +22,8 @@ joined-bytes (x ∷ s) =
     and-from _ _ (lt-ltb (x / 2 ^ 24 % 256) 256 (omega arith)) (and-from _ _ (lt-ltb (x / 2 ^ 16 % 256) 256 (omega arith))
     (and-from _ _ (lt-ltb (x / 2 ^ 8 % 256) 256 (omega arith)) (and-from _ _ (lt-ltb (x % 256) 256 (omega arith)) (joined-bytes s))))
 
-pub sha256-digest : IsDigest sha256
+pub sha256-digest : Whole sha256
 unfolding sha256
-sha256-digest = record { long = λ a. joined-length (hash H₀ (pad a)) ∙ ap (λ n. 4 * n) (hash-length a); small = λ a. joined-bytes _ }
+sha256-digest a =
+    let s = hash H₀ (pad a) in
+    and-from _ _ (eq-eqb (length (joined be32 s)) 32 (joined-length s ∙ ap (λ n. 4 * n) (hash-length a))) (joined-bytes s)

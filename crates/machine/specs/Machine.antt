@@ -1,5 +1,5 @@
 -- The machine: 65,536 words of 32 bits, a register, and the place of the next instruction.
-use mathlib.Core.Bool.{cond}
+use mathlib.Core.Bool.{Bool, true, false, cond}
 use mathlib.Core.List.{List, [], _∷_, _++_}
 use Prim.Native.Nat.{ℕ, zero, suc, _+_, _-_, _/_, _%_, _^_}
 use lib.Dec.{eqb}
@@ -50,16 +50,16 @@ cpuAfter (JumpIfZero a) c v = record { place = cond (eqb (c .register) 0) a (fol
 cpuAfter (Set a) c v = record { place = following (c .place); register = a }
 cpuAfter Halt c v = c
 
--- The memory after an instruction; r is the register before it.
-abbrev pub memoryAfter : Instruction → (r : ℕ) → List ℕ → List ℕ
-memoryAfter (Load a) r m = m
-memoryAfter (Store a) r m = set m a r
-memoryAfter (Add a) r m = m
-memoryAfter (Subtract a) r m = m
-memoryAfter (Jump a) r m = m
-memoryAfter (JumpIfZero a) r m = m
-memoryAfter (Set a) r m = m
-memoryAfter Halt r m = m
+-- Whether an instruction stores the register at its place.
+abbrev pub stores : Instruction → Bool
+stores (Load a) = false
+stores (Store a) = true
+stores (Add a) = false
+stores (Subtract a) = false
+stores (Jump a) = false
+stores (JumpIfZero a) = false
+stores (Set a) = false
+stores Halt = false
 
 -- The word of the next instruction.
 abbrev pub fetch : State → ℕ
@@ -70,7 +70,11 @@ abbrev pub operand : State → ℕ
 operand s = getD (s .memory) (placeOf (fetch s)) 0
 
 unfoldable pub step : State → State
-step s = record { cpu = cpuAfter (decode (fetch s)) (s .cpu) (operand s); memory = memoryAfter (decode (fetch s)) (s .cpu .register) (s .memory) }
+step s =
+    record {
+      cpu = cpuAfter (decode (fetch s)) (s .cpu) (operand s);
+      memory = cond (stores (decode (fetch s))) (set (s .memory) (placeOf (fetch s)) (s .cpu .register)) (s .memory);
+    }
 
 -- The state after n steps.
 unfoldable pub run : ℕ → State → State

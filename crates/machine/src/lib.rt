@@ -1,14 +1,14 @@
 // The machine: 65,536 words of 32 bits in a lent slice, a register, and the place of the next instruction.
 ghost use mathlib.Core.Bool.{cond};
 ghost use mathlib.Core.Path.{_≡_};
-ghost use Prim.Native.Nat.{_%_, _≤_};
+ghost use Prim.Native.Nat.{_%_};
 ghost use lib.Dec.{eqb};
 ghost use lib.ListN.{length, getD};
 ghost use Rattle.std.specs.declared.option.Option.the-variants.{Some, None};
 ghost use Rattle.std.specs.Orderings.{Decides};
 ghost use Rattle.merkle.specs.Seen.{seenAll};
 ghost use Rattle.machine.specs.declared.Instruction.the-variants.{Halt};
-ghost use Rattle.machine.specs.Machine.{State, instruction, decode as decoded, cpuAfter, memoryAfter, placeOf, step as stepped, run as runs, digest as digests, digestPreimages};
+ghost use Rattle.machine.specs.Machine.{instruction, decode as decoded, cpuAfter, stores as stored, placeOf, step as stepped, run as runs, digest as digests, digestPreimages};
 use merkle::Digest;
 use merkle::Digester;
 use merkle::memory_digest;
@@ -38,7 +38,7 @@ pub struct Cpu {
 }
 
 // The place in a word that is an instruction.
-fn place_of(word: u32) -> u16
+pub fn place_of(word: u32) -> u16
     ensures { λ r. ⌜ r ≡ placeOf word ⌝ }
 {
     (word % 65536) as u16
@@ -61,8 +61,15 @@ impl Instruction {
         }
     }
 
+    // Whether it stores the register at its place.
+    pub fn stores(self) -> bool
+        ensures { λ r. ⌜ r ≡ stored self ⌝ }
+    {
+        matches!(self, Instruction::Store(_))
+    }
+
     // A word as an instruction.
-    fn decode(word: u32) -> Instruction
+    pub fn decode(word: u32) -> Instruction
         ensures { λ r. ⌜ r ≡ decoded word ⌝ }
     {
         Instruction::numbered(word / 65536, place_of(word))
@@ -81,40 +88,50 @@ impl Cpu {
         )
     }
 
-    // One step.
-    fn step(&mut self, memory: &mut [u32])
-        requires { ⌜ length (now memory) ≡ 65536 ⌝ }
-        ensures { λ _. ⌜ record { cpu = now (self .exit); memory = now (memory .exit) } ≡ stepped (record { cpu = now (self .entry); memory = now (memory .entry) }) ⌝ }
+    // What an instruction makes of place and register; `operand` is the word at its place.
+    pub fn execute(&mut self, instruction: Instruction, operand: u32)
+        ensures { λ _. ⌜ now (self .exit) ≡ cpuAfter instruction (now (self .entry)) operand ⌝ }
     {
         let next = self.place.wrapping_add(1);
-        let word = memory[self.place as usize];
-        let operand = place_of(word) as usize;
-        match Instruction::decode(word) {
+        match instruction {
             Instruction::Load(_) => {
                 self.place = next;
-                self.register = memory[operand];
+                self.register = operand;
             }
-            Instruction::Store(place) => {
-                self.place = next;
-                memory[place as usize] = self.register;
-            }
+            Instruction::Store(_) => self.place = next,
             Instruction::Add(_) => {
                 self.place = next;
-                self.register = self.register.wrapping_add(memory[operand]);
+                self.register = self.register.wrapping_add(operand);
             }
             Instruction::Subtract(_) => {
                 self.place = next;
-                self.register = self.register.wrapping_sub(memory[operand]);
+                self.register = self.register.wrapping_sub(operand);
             }
             Instruction::Jump(target) => self.place = target,
-            Instruction::JumpIfZero(target) if self.register == 0 => self.place = target,
-            Instruction::JumpIfZero(_) => self.place = next,
+            Instruction::JumpIfZero(target) => {
+                self.place = if self.register == 0 { target } else { next };
+            }
             Instruction::Set(value) => {
                 self.place = next;
                 self.register = u32::from(value);
             }
             Instruction::Halt => {}
         }
+    }
+
+    // One step.
+    fn step(&mut self, memory: &mut [u32])
+        requires { ⌜ length (now memory) ≡ 65536 ⌝ }
+        ensures { λ _. ⌜ record { cpu = now (self .exit); memory = now (memory .exit) } ≡ stepped (record { cpu = now (self .entry); memory = now (memory .entry) }) ⌝ }
+    {
+        let word = memory[self.place as usize];
+        let place = place_of(word) as usize;
+        let operand = memory[place];
+        let instruction = Instruction::decode(word);
+        if instruction.stores() {
+            memory[place] = self.register;
+        }
+        self.execute(instruction, operand);
     }
 }
 

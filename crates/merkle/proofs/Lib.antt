@@ -1,4 +1,10 @@
 mod Parts
 pub mod Seen
-mod Walks
+pub mod Walks
 mod Nodes
+mod Siblings
+pub mod Strings
+pub mod Shapes
+pub mod Bindings
+pub mod Honest
+mod Searches

@@ -44,7 +44,7 @@ module _ (h : Hash) (k i : ℕ) (m : List ℕ) (l r : Bytes) (up : k ≡ 0 → �
       seen-last adds t u v b p iu (iv ∙ ap (adds u) both) ∙ ap (λ x. seenAll adds x (b ++ (p ∷ []))) it
       ∙ sym (seen-append adds s a (b ++ (p ∷ []))) ∙ ap (λ x. seenAll adds s (nodePreimages h x i m)) level
 
-pow-down : (k : ℕ) → (k ≡ 0 → ⊥) → 2 ^ k ≡ 2 * 2 ^ (k - 1)
+pub pow-down : (k : ℕ) → (k ≡ 0 → ⊥) → 2 ^ k ≡ 2 * 2 ^ (k - 1)
 pow-down k up = let e : k ≡ suc (k - 1) = omega arith in ap (λ x. 2 ^ x) e ∙ pow-succ' 2 (k - 1)
 
 -- the two parts of a node lie in the memory

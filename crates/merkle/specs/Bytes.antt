@@ -3,7 +3,7 @@ use mathlib.Core.Path.{_≡_}
 use mathlib.Core.Bool.{Bool, true, _&&_}
 use mathlib.Core.List.{List, [], _∷_, _++_}
 use Prim.Native.Nat.{ℕ, _/_, _%_}
-use lib.Dec.{ltb}
+use lib.Dec.{eqb, ltb}
 use lib.ListN.{length}
 
 -- A string of bytes, as numbers.
@@ -19,10 +19,18 @@ unfoldable pub allBytes : Bytes → Bool
 allBytes [] = true
 allBytes (x ∷ xs) = ltb x 256 && allBytes xs
 
--- All that is assumed of a digest: it has 32 bytes. Nothing is assumed about collisions.
-pub record IsDigest (hash : Hash) : Type 0 where
-  pub long : (a : Bytes) → length (hash a) ≡ 32
-  pub small : (a : Bytes) → allBytes (hash a) ≡ true
+-- The string has 32 bytes.
+abbrev pub isDigest : Bytes → Bool
+isDigest d = eqb (length d) 32 && allBytes d
+
+-- Every string of the list has 32 bytes.
+unfoldable pub allDigests : List Bytes → Bool
+allDigests [] = true
+allDigests (d ∷ ds) = isDigest d && allDigests ds
+
+-- All that is assumed of a digest: 32 bytes come out. Nothing is assumed about collisions.
+abbrev pub Whole : Hash → Type 0
+Whole hash = (a : Bytes) → isDigest (hash a) ≡ true
 
 -- A number of 32 bits in four bytes, high byte first.
 unfoldable pub be4 : ℕ → Bytes

@@ -8,7 +8,7 @@ use lib.ListN.{length, getD, set, take, drop, replicate}
 use borrow.Rule.Slice.PartMut.{putMid, postOf}
 use Rattle.std.specs.Vectors.{chunked}
 use Rattle.std.proofs.shelf.Lists.{append-assoc, append-nil, length-append, length-drop, length-replicate, replicate-append-replicate, take-all, drop-all, take-at, drop-at, set-at, drop-drop, drop-replicate, take-append-le, drop-append-le, drop-more}
-use Rattle.sha256.specs.Sha256.{compress, be64, zeros, ending, pad, absorb, hash, sha256, H₀}
+use Rattle.sha256.specs.Sha256.{compress, be64, zeros, ending, absorb, hash}
 
 -- ---- the arrays of the code
 pub padded-is : (rest xs : List ℕ) → length rest < 64 → xs ≡ rest

@@ -1,10 +1,9 @@
 -- Two digits for one byte more.
-use mathlib.Core.Path.{_≡_, refl, sym, ap, _∙_}
-use mathlib.Core.Bool.{true}
-use mathlib.Core.List.{List, [], _∷_, _++_, append-assoc}
-use Prim.Native.Nat.{ℕ, _+_, _/_, _%_, _<_, _≤_}
+use mathlib.Core.Path.{_≡_, sym, ap, _∙_}
+use mathlib.Core.List.{[], _∷_, _++_, append-assoc}
+use Prim.Native.Nat.{ℕ, _+_, _/_, _%_, _<_}
 use lib.ListN.{length, getD, take}
-use Rattle.std.proofs.shelf.Lists.{take-more, take-all, joined-more}
+use Rattle.std.proofs.shelf.Lists.{take-more, joined-more}
 use Rattle.merkle.specs.Bytes.{Bytes}
 use Rattle.text.specs.Text.{hexDigit, hexByte, hexadecimal}
 

@@ -1,8 +1,4 @@
-use mathlib.Core.Path.{_≡_, sym, ap, _∙_}
-use Prim.Native.Nat.{_<_}
 use native.Mathlib.Omega.{arith}
-use lib.ListN.{length}
-use Rattle.sha256.specs.Sha256.{compress}
 use Rattle.sha256.proofs.Blocks.{one-block, two-blocks}
 use Rattle.sha256.proofs.finish.Needs as need
 

@@ -1,0 +1,3 @@
+pub mod Witness
+pub mod Wire
+pub mod Laws
