@@ -1,0 +1,3 @@
+pub mod Referee
+pub mod Bisection
+pub mod Promise
