@@ -1,4 +1,6 @@
 // Worked cases: runs and disputes on real SHA-256.
+#![tactic(auto)]
+
 ghost use Rattle.cases.specs.Table.{Worked};
 
 // Every row of the table holds.

@@ -1,4 +1,6 @@
 // Examples of what the libraries do; every expected digest comes from another implementation of SHA-256.
+#![tactic(auto)]
+
 pub mod digesters;
 #[cfg(test)]
 mod histories;

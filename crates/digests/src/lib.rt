@@ -1,4 +1,6 @@
 // SHA-256 as the digest of words, pairs and states.
+#![tactic(auto)]
+
 ghost use Rattle.sha256.specs.Sha256.{sha256 as hashed};
 ghost use Rattle.digests.specs.Bytes.{sha256_digest};
 

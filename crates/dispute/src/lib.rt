@@ -1,4 +1,6 @@
 // The dispute: messages, turns and days, and the referee's answers.
+#![tactic(auto)]
+
 ghost use Rattle.std.specs.Prelude.{◌≡◌};
 ghost use Rattle.merkle.specs.Bytes.{Bytes, Hash};
 ghost use Rattle.witness.specs.Laws.{machine};

@@ -1,4 +1,6 @@
 // The states that a party keeps of its own run: after each 2^20 steps, what has changed since the state before.
+#![tactic(auto)]
+
 ghost use Rattle.std.specs.Prelude.{◌≡◌, ◌+◌, ◌*◌, ◌/◌, ◌^◌, ◌<◌, ◌≤◌, max, true, length, is_ok, IfOk, if◌then◌else◌, vec_len, MatchOption, OnOk, ◌≢◌};
 ghost use Rattle.machine.specs.Machine.{start, step, run as runs, digest as digests};
 ghost use Rattle.witness.specs.Witness.{witness as shown, accepts};

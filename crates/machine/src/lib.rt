@@ -1,4 +1,6 @@
 // The machine: 65,536 words of 32 bits in a lent slice, a register, and the place of the next instruction.
+#![tactic(auto)]
+
 ghost use Rattle.std.specs.Prelude.{◌≡◌, ◌%◌, eqb, length, if◌then◌else◌, Some, None, Decides, slice_index};
 ghost use Rattle.merkle.specs.Seen.{seen_all};
 ghost use Rattle.machine.specs.declared.Instruction.TheVariants.{Halt};

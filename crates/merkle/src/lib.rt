@@ -1,4 +1,6 @@
 // Digests of a memory of words, over any digest of byte strings: what is digested, the memory's own digest, and openings of single words.
+#![tactic(auto)]
+
 ghost use Rattle.std.specs.Prelude.{◌≡◌, ℕ, List};
 ghost use Rattle.merkle.specs.Bytes.{Whole};
 

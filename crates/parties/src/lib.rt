@@ -1,4 +1,6 @@
 // What the parties send.
+#![tactic(auto)]
+
 ghost use Rattle.std.specs.Prelude.{◌≡◌, ◌^◌, ◌≤◌, IfOk};
 ghost use Rattle.merkle.specs.Collision.{eq_bytes};
 ghost use Rattle.merkle.specs.Strings.{two_bytes};

@@ -1,4 +1,6 @@
 // party FILE claimer N, party FILE doubter: plays a side of a case by its own run.
+#![tactic(auto)]
+
 mod failure;
 mod input;
 

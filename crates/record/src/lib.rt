@@ -1,4 +1,6 @@
 // The record of a case: its lines, read and printed.
+#![tactic(auto)]
+
 ghost use Rattle.std.specs.Prelude.{◌≡◌, IfOk, string_bytes};
 ghost use Rattle.std.specs.Option.{option_map};
 ghost use Rattle.merkle.specs.Bytes.{Bytes};

@@ -1,4 +1,6 @@
 // referee: reads the lines of a case, and answers each by one line.
+#![tactic(auto)]
+
 mod failure;
 
 use digests::Sha256;

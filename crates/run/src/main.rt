@@ -1,4 +1,6 @@
 // run FILE K: the place, the register and the digest of a program's state after K steps.
+#![tactic(auto)]
+
 mod failure;
 
 ghost use Rattle.std.specs.Prelude.{◌^◌, ◌≤◌, IfOk};

@@ -1,4 +1,6 @@
 // SHA-256, as FIPS 180-4 defines it.
+#![tactic(auto)]
+
 ghost use Rattle.std.specs.Prelude.{◌≡◌, ◌-◌, ◌*◌, ◌%◌, ◌<◌, ◌∷◌, ◌++◌, length, take, replicate};
 ghost use Rattle.std.specs.List.{flat_map};
 ghost use Rattle.sha256.specs.Sha256.{ch, maj, Σ₀, Σ₁, σ₀, σ₁, be32, be64, sha256, ending};

@@ -1,4 +1,6 @@
 // Text and files: what the programs read and print.
+#![tactic(auto)]
+
 pub mod files;
 pub mod hex;
 pub mod line;

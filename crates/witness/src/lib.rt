@@ -1,4 +1,6 @@
 // The last step of a dispute: what is shown of it, and who wins by it.
+#![tactic(auto)]
+
 ghost use Rattle.std.specs.Prelude.{◌≡◌, ◌^◌, ◌<◌, ◌≤◌, true, ◌&&◌, ltb, ◌⊎◌, [], ◌∷◌, ◌++◌, length, if◌then◌else◌, Some, None};
 ghost use Rattle.merkle.specs.Bytes.{Hash};
 ghost use Rattle.merkle.specs.Seen.{seen_all};
