@@ -53,11 +53,11 @@ impl Referee {
         party: Party,
         bytes: &[u8],
     ) -> (Referee, Answer)
-        ensures value { (g : Bytes) → (result.0.case, result.1) ≡ take (bisection (machine hash) g) self.case (sent party bytes.now) }
-        ensures promise { Keeps (machine hash) self.case (sent party bytes.now) result.0.case }
-        ensures seen { seen digester.new ≡ seen_all adds (seen digester.old) (strings hash self.case.phase party (decode (machine hash) bytes.now)) }
-        ensures few { length (strings hash self.case.phase party (decode (machine hash) bytes.now)) ≤ limit (decode (machine hash) bytes.now) }
-        ensures rests { (k : Hash) (g : Bytes) → Agree hash k (strings hash self.case.phase party (decode (machine hash) bytes.now)) → (result.0.case, result.1) ≡ take (bisection (machine k) g) self.case (sent party bytes.now) }
+        ensures value { (g : Bytes) → (result.0.case, result.1) ≡ take (bisection (machine D.hash) g) self.case (sent party bytes.now) }
+        ensures promise { Keeps (machine D.hash) self.case (sent party bytes.now) result.0.case }
+        ensures seen { D.seen digester.new ≡ seen_all D.adds (D.seen digester.old) (strings D.hash self.case.phase party (decode (machine D.hash) bytes.now)) }
+        ensures few { length (strings D.hash self.case.phase party (decode (machine D.hash) bytes.now)) ≤ limit (decode (machine D.hash) bytes.now) }
+        ensures rests { (k : Hash) (g : Bytes) → Agree D.hash k (strings D.hash self.case.phase party (decode (machine D.hash) bytes.now)) → (result.0.case, result.1) ≡ take (bisection (machine k) g) self.case (sent party bytes.now) }
     {
         let Some(message) = Message::decode(bytes) else {
             return (self, Answer::Refused(Refusal::Unreadable));

@@ -122,9 +122,9 @@ impl Phase {
         message: &Message<Witness>,
     ) -> Option<Phase>
         requires { InReach self }
-        ensures value { result ≡ moved (machine hash) self message.now }
-        ensures seen { seen digester.new ≡ seen_all adds (seen digester.old) (move_strings hash self message.now) }
-        ensures few { length (move_strings hash self message.now) ≤ step_limit (step_in message.now) }
+        ensures value { result ≡ moved (machine D.hash) self message.now }
+        ensures seen { D.seen digester.new ≡ seen_all D.adds (D.seen digester.old) (move_strings D.hash self message.now) }
+        ensures few { length (move_strings D.hash self message.now) ≤ step_limit (step_in message.now) }
     {
         match self {
             Phase::Claiming(start) => match message {

@@ -196,7 +196,7 @@ impl History {
 
     // The digest of the state after so many steps.
     pub fn digest_at<D: Digester>(&self, digester: &mut D, steps: u64) -> Result<Digest, AllocError>
-        ensures { IfOk result (λ d. d ≡ digests hash (runs steps (start self.now.program.items))) }
+        ensures { IfOk result (λ d. d ≡ digests D.hash (runs steps (start self.now.program.items))) }
     {
         let (cpu, memory) = self.state_at(steps)?;
         Ok(digest(digester, cpu, &memory))
@@ -208,8 +208,8 @@ impl History {
         digester: &mut D,
         steps: u64,
     ) -> Result<Witness, AllocError>
-        ensures value { IfOk result (λ w. w ≡ shown hash (runs steps (start self.now.program.items))) }
-        ensures complete { IfOk result (λ w. accepts hash (digests hash (runs steps (start self.now.program.items))) w (digests hash (step (runs steps (start self.now.program.items)))) ≡ true) }
+        ensures value { IfOk result (λ w. w ≡ shown D.hash (runs steps (start self.now.program.items))) }
+        ensures complete { IfOk result (λ w. accepts D.hash (digests D.hash (runs steps (start self.now.program.items))) w (digests D.hash (step (runs steps (start self.now.program.items)))) ≡ true) }
     {
         let (cpu, memory) = self.state_at(steps)?;
         Ok(Witness::of(digester, cpu, &memory))

@@ -182,8 +182,8 @@ pub fn run<W: Watch>(memory: &mut [u32], cpu: Cpu, steps: u64, watch: &mut W) ->
 
 // The digest of a state.
 pub fn digest<D: Digester>(digester: &mut D, cpu: Cpu, memory: &[u32]) -> Digest
-    ensures value { result ≡ digests hash (record { cpu = cpu; memory = memory.now }) }
-    ensures seen { seen digester.new ≡ seen_all adds (seen digester.old) (digest_preimages hash (record { cpu = cpu; memory = memory.now })) }
+    ensures value { result ≡ digests D.hash (record { cpu = cpu; memory = memory.now }) }
+    ensures seen { D.seen digester.new ≡ seen_all D.adds (D.seen digester.old) (digest_preimages D.hash (record { cpu = cpu; memory = memory.now })) }
 {
     let root = memory_digest(digester, memory);
     state_digest(digester, cpu.place, cpu.register, &root)

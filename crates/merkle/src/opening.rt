@@ -50,9 +50,9 @@ fn sibling(index: u16) -> usize
 impl Opening {
     // The memory's digest that the opening gives at a place.
     pub fn climb<D: Digester>(&self, digester: &mut D, place: u16) -> Digest
-        ensures value { result ≡ root_from hash place self.now.word self.now.siblings }
-        ensures seen { seen digester.new ≡ seen_all adds (seen digester.old) (opening_preimages hash place self.now.word self.now.siblings) }
-        ensures count { length (opening_preimages hash place self.now.word self.now.siblings) ≡ 17 }
+        ensures value { result ≡ root_from D.hash place self.now.word self.now.siblings }
+        ensures seen { D.seen digester.new ≡ seen_all D.adds (D.seen digester.old) (opening_preimages D.hash place self.now.word self.now.siblings) }
+        ensures count { length (opening_preimages D.hash place self.now.word self.now.siblings) ≡ 17 }
     {
         let mut index = u32::from(place);
         let mut digest = word_digest(digester, self.word);
@@ -66,9 +66,9 @@ impl Opening {
 
     // The honest opening of a place. It gives the root, and with another word the root of the memory with that word.
     pub fn of<D: Digester>(digester: &mut D, memory: &[u32], place: u16) -> Opening
-        ensures value { result ≡ honest hash place memory.now }
-        ensures opens { opened hash place result ≡ root hash memory.now }
-        ensures updates { (v : ℕ) → place < length memory.now → opened hash place (record { word = v; siblings = result.siblings }) ≡ root hash (slice_set memory.now place v) }
+        ensures value { result ≡ honest D.hash place memory.now }
+        ensures opens { opened D.hash place result ≡ root D.hash memory.now }
+        ensures updates { (v : ℕ) → place < length memory.now → opened D.hash place (record { word = v; siblings = result.siblings }) ≡ root D.hash (slice_set memory.now place v) }
     {
         let mut siblings = [[0; 32]; 16];
         let mut index = place;
@@ -89,8 +89,8 @@ impl Opening {
         place: u16,
         memory: &Digest,
     ) -> Option<u32>
-        ensures value { result ≡ (if eq_bytes (opened hash place self.now) memory.now then Some self.now.word else None) }
-        ensures seen { seen digester.new ≡ seen_all adds (seen digester.old) (preimages hash place self.now) }
+        ensures value { result ≡ (if eq_bytes (opened D.hash place self.now) memory.now then Some self.now.word else None) }
+        ensures seen { D.seen digester.new ≡ seen_all D.adds (D.seen digester.old) (preimages D.hash place self.now) }
     {
         let root = self.climb(digester, place);
         if same(&root, memory) {
@@ -117,8 +117,8 @@ impl Opening {
         other_place: u32,
         other: &Opening,
     ) -> Option<(Preimage, Preimage)>
-        ensures value { two_bytes result ≡ last_difference (preimages hash place one.now) (preimages hash other_place other.now) }
-        ensures binds { opened hash place one.now ≡ opened hash place other.now → (one.now ≡ other.now) ⊎ WayCollision hash (preimages hash place one.now) (preimages hash place other.now) }
+        ensures value { two_bytes result ≡ last_difference (preimages D.hash place one.now) (preimages D.hash other_place other.now) }
+        ensures binds { opened D.hash place one.now ≡ opened D.hash place other.now → (one.now ≡ other.now) ⊎ WayCollision D.hash (preimages D.hash place one.now) (preimages D.hash place other.now) }
     {
         one.shape();
         other.shape();

@@ -83,15 +83,15 @@ pub fn state_preimage(place: u32, register: u32, memory: &Digest) -> [u8; 41]
 }
 
 pub(crate) fn word_digest<D: Digester>(digester: &mut D, word: u32) -> Digest
-    ensures value { result ≡ hash (word_preimage word) }
-    ensures seen { seen digester.new ≡ adds (seen digester.old) (word_preimage word) }
+    ensures value { result ≡ D.hash (word_preimage word) }
+    ensures seen { D.seen digester.new ≡ D.adds (D.seen digester.old) (word_preimage word) }
 {
     digester.digest(&word_preimage(word))
 }
 
 pub(crate) fn pair_digest<D: Digester>(digester: &mut D, left: &Digest, right: &Digest) -> Digest
-    ensures value { result ≡ hash (pair_preimage left.now right.now) }
-    ensures seen { seen digester.new ≡ adds (seen digester.old) (pair_preimage left.now right.now) }
+    ensures value { result ≡ D.hash (pair_preimage left.now right.now) }
+    ensures seen { D.seen digester.new ≡ D.adds (D.seen digester.old) (pair_preimage left.now right.now) }
 {
     digester.digest(&pair_preimage(left, right))
 }
@@ -103,8 +103,8 @@ pub fn state_digest<D: Digester>(
     register: u32,
     memory: &Digest,
 ) -> Digest
-    ensures value { result ≡ hash (state_preimage place register memory.now) }
-    ensures seen { seen digester.new ≡ adds (seen digester.old) (state_preimage place register memory.now) }
+    ensures value { result ≡ D.hash (state_preimage place register memory.now) }
+    ensures seen { D.seen digester.new ≡ D.adds (D.seen digester.old) (state_preimage place register memory.now) }
 {
     digester.digest(&state_preimage(u32::from(place), register, memory))
 }

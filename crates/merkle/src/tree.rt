@@ -24,8 +24,8 @@ pub(crate) fn node_digest<D: Digester>(
     index: usize,
 ) -> Digest
     requires { (index + 1) * 2 ^ level ≤ 65536 }
-    ensures value { result ≡ node hash level index memory.now }
-    ensures seen { seen digester.new ≡ seen_all adds (seen digester.old) (node_preimages hash level index memory.now) }
+    ensures value { result ≡ node D.hash level index memory.now }
+    ensures seen { D.seen digester.new ≡ seen_all D.adds (D.seen digester.old) (node_preimages D.hash level index memory.now) }
 {
     if level == 0 {
         return word_digest(digester, word_at(memory, index));
@@ -37,9 +37,9 @@ pub(crate) fn node_digest<D: Digester>(
 
 // The digest of a memory of 65,536 words, of which those beyond the slice are 0.
 pub fn memory_digest<D: Digester>(digester: &mut D, memory: &[u32]) -> Digest
-    ensures value { result ≡ root hash memory.now }
-    ensures seen { seen digester.new ≡ seen_all adds (seen digester.old) (node_preimages hash 16 0 memory.now) }
-    ensures count { length (node_preimages hash 16 0 memory.now) ≡ 131071 }
+    ensures value { result ≡ root D.hash memory.now }
+    ensures seen { D.seen digester.new ≡ seen_all D.adds (D.seen digester.old) (node_preimages D.hash 16 0 memory.now) }
+    ensures count { length (node_preimages D.hash 16 0 memory.now) ≡ 131071 }
 {
     node_digest(digester, memory, 16, 0)
 }

@@ -62,7 +62,7 @@ fn claimer_says<D: Digester>(
     referee: &Referee,
 ) -> Result<Option<Message<Witness>>, AllocError>
     requires { n ≤ 32 }
-    ensures { IfOk result (λ m. m ≡ honest_claimer (machine hash) (own history.now) n referee.now.case.phase) }
+    ensures { IfOk result (λ m. m ≡ honest_claimer (machine D.hash) (own history.now) n referee.now.case.phase) }
 {
     match referee.case.phase {
         Phase::Claiming(_) => {
@@ -87,7 +87,7 @@ fn doubter_says<D: Digester>(
     digester: &mut D,
     referee: &Referee,
 ) -> Result<Option<Message<Witness>>, AllocError>
-    ensures { IfOk result (λ m. m ≡ honest_doubter (machine hash) (own history.now) referee.now.case.phase) }
+    ensures { IfOk result (λ m. m ≡ honest_doubter (machine D.hash) (own history.now) referee.now.case.phase) }
 {
     match referee.case.phase {
         Phase::Doubting(_, n, claimed) => {
@@ -120,7 +120,7 @@ fn says<D: Digester>(
     referee: &Referee,
 ) -> Result<Option<Message<Witness>>, AllocError>
     requires { exponent role ≤ 32 }
-    ensures { IfOk result (λ m. m ≡ strategy (machine hash) (own history.now) role referee.now.case.phase) }
+    ensures { IfOk result (λ m. m ≡ strategy (machine D.hash) (own history.now) role referee.now.case.phase) }
 {
     match role {
         Role::Claimer(n) => claimer_says(history, digester, n, referee),
@@ -136,8 +136,8 @@ pub fn collision<D: Digester>(
     dispute: &Dispute,
     shown: &Witness,
 ) -> Result<Option<(Preimage, Preimage)>, AllocError>
-    ensures value { IfOk result (λ o. two_bytes o ≡ first_difference hash shown.now (witness hash (run dispute.now.from (own history.now)))) }
-    ensures collides { IfOk result (λ o. (LostAt (machine hash) (own history.now) dispute.now shown.now → Collides hash o)) }
+    ensures value { IfOk result (λ o. two_bytes o ≡ first_difference D.hash shown.now (witness D.hash (run dispute.now.from (own history.now)))) }
+    ensures collides { IfOk result (λ o. (LostAt (machine D.hash) (own history.now) dispute.now shown.now → Collides D.hash o)) }
 {
     let own = history.witness_at(digester, u64::from(dispute.from))?;
     Ok(shown.difference(digester, &own))

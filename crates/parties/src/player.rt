@@ -35,7 +35,7 @@ impl Player {
         role: Role,
         program: Vec<u32>,
     ) -> Result<Option<Player>, AllocError>
-        ensures { IfOk result (λ o. MatchOption o (1 ≤ exponent role → exponent role ≤ 32 → vec_len program ≢ 65536) (λ x. (x.role ≡ role) × (x.history.program ≡ program) × (x.referee.case ≡ opening (game (machine hash) (own x.history))))) }
+        ensures { IfOk result (λ o. MatchOption o (1 ≤ exponent role → exponent role ≤ 32 → vec_len program ≢ 65536) (λ x. (x.role ≡ role) × (x.history.program ≡ program) × (x.referee.case ≡ opening (game (machine D.hash) (own x.history))))) }
     {
         if role.exponent() < 1 || role.exponent() > 32 {
             return Ok(None);
@@ -62,7 +62,7 @@ impl Player {
 
     // What comes of an entry: the case goes on as at the referee, and a refusal changes nothing.
     pub fn hear<D: Digester>(&mut self, digester: &mut D, entry: &Entry<Vec<u8>>) -> Answer
-        ensures case { (g : Bytes) → (self.new.referee.case, result) ≡ entered (bisection (machine hash) g) self.old.referee.case (held entry.now) }
+        ensures case { (g : Bytes) → (self.new.referee.case, result) ≡ entered (bisection (machine D.hash) g) self.old.referee.case (held entry.now) }
         ensures same { (self.new.role ≡ self.old.role) × (self.new.history ≡ self.old.history) }
     {
         let (next, answer) = admit(self.referee, digester, entry);
@@ -95,8 +95,8 @@ impl Player {
 
     // What the party has to send now, if anything.
     pub fn say<D: Digester>(&self, digester: &mut D) -> Result<Option<Message<Witness>>, AllocError>
-        ensures value { IfOk result (λ m. m ≡ strategy (machine hash) (own self.now.history) self.now.role self.now.referee.case.phase) }
-        ensures promise { IfOk result (λ m. Plays (machine hash) self.now.role self.now.referee.case m) }
+        ensures value { IfOk result (λ m. m ≡ strategy (machine D.hash) (own self.now.history) self.now.role self.now.referee.case.phase) }
+        ensures promise { IfOk result (λ m. Plays (machine D.hash) self.now.role self.now.referee.case m) }
     {
         says(&self.history, digester, self.role, &self.referee)
     }

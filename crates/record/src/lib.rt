@@ -118,7 +118,7 @@ pub fn admit<D: Digester>(
     digester: &mut D,
     entry: &Entry<Vec<u8>>,
 ) -> (Referee, Answer)
-    ensures { (g : Bytes) → (result.0.case, result.1) ≡ entered (bisection (machine hash) g) referee.case (held entry.now) }
+    ensures { (g : Bytes) → (result.0.case, result.1) ≡ entered (bisection (machine D.hash) g) referee.case (held entry.now) }
 {
     match entry {
         Entry::Sent(party, bytes) => referee.receive(digester, *party, bytes),
@@ -134,8 +134,8 @@ pub fn enter<D: Digester>(
     digester: &mut D,
     line: &Line,
 ) -> Result<(Referee, Answer), AllocError>
-    ensures value { IfOk result (λ p. ((bs g : Bytes) → Holds line.now bs → (p.0.case, p.1) ≡ entered (bisection (machine hash) g) referee.case (entry_at bs))) }
-    ensures promise { IfOk result (λ p. ((bs : Bytes) → Holds line.now bs → KeepsAt (machine hash) referee.case (entry_at bs) p.0.case)) }
+    ensures value { IfOk result (λ p. ((bs g : Bytes) → Holds line.now bs → (p.0.case, p.1) ≡ entered (bisection (machine D.hash) g) referee.case (entry_at bs))) }
+    ensures promise { IfOk result (λ p. ((bs : Bytes) → Holds line.now bs → KeepsAt (machine D.hash) referee.case (entry_at bs) p.0.case)) }
 {
     let entry = read(heap, line)?;
     Ok(admit(referee, digester, &entry))

@@ -28,7 +28,7 @@ fn from_start<D: Digester, W: Watch>(
     watch: &mut W,
 ) -> Result<String, AllocError>
     requires { length memory.old ≡ 65536 }
-    ensures { IfOk result (λ s. string_bytes s ≡ state_line D.Digester.hash (runs steps (start memory.old))) }
+    ensures { IfOk result (λ s. string_bytes s ≡ state_line D.hash (runs steps (start memory.old))) }
 {
     let start = Cpu {
         place: 0,
@@ -49,7 +49,7 @@ pub fn after<D: Digester, W: Watch>(
     digester: &mut D,
     watch: &mut W,
 ) -> Result<String, LoadError>
-    ensures { Made file.now (λ s. string_bytes s ≡ state_line D.Digester.hash (runs steps (start (filled file.now)))) result }
+    ensures { Made file.now (λ s. string_bytes s ≡ state_line D.hash (runs steps (start (filled file.now)))) result }
 {
     let mut memory = program::load(heap, file)?;
     match from_start(heap, &mut memory, steps, digester, watch) {

@@ -46,8 +46,8 @@ fn low_place(place: u32) -> Option<u16>
 impl Witness {
     // What an honest party shows of the next step; it is accepted from the state's digest to the next state's.
     pub fn of<D: Digester>(digester: &mut D, cpu: Cpu, memory: &[u32]) -> Witness
-        ensures value { result ≡ shown hash (record { cpu = cpu; memory = memory.now }) }
-        ensures complete { length memory.now ≡ 65536 → accepts hash (digest hash (record { cpu = cpu; memory = memory.now })) result (digest hash (step (record { cpu = cpu; memory = memory.now }))) ≡ true }
+        ensures value { result ≡ shown D.hash (record { cpu = cpu; memory = memory.now }) }
+        ensures complete { length memory.now ≡ 65536 → accepts D.hash (digest D.hash (record { cpu = cpu; memory = memory.now })) result (digest D.hash (step (record { cpu = cpu; memory = memory.now }))) ≡ true }
     {
         let root = memory_digest(digester, memory);
         let instruction = Opening::of(digester, memory, cpu.place);
@@ -75,8 +75,8 @@ impl Witness {
 
     // Place and register, where they and the memory's digest give the digest at the beginning.
     fn cpu_under<D: Digester>(&self, digester: &mut D, start: &Digest) -> Option<Cpu>
-        ensures value { result ≡ (if ltb self.now.place 65536 && state_fits hash start.now self.now then Some (record { place = self.now.place; register = self.now.register }) else None) }
-        ensures seen { seen digester.new ≡ seen_all adds (seen digester.old) (if ltb self.now.place 65536 then state_part self.now ∷ [] else []) }
+        ensures value { result ≡ (if ltb self.now.place 65536 && state_fits D.hash start.now self.now then Some (record { place = self.now.place; register = self.now.register }) else None) }
+        ensures seen { D.seen digester.new ≡ seen_all D.adds (D.seen digester.old) (if ltb self.now.place 65536 then state_part self.now ∷ [] else []) }
     {
         let place = low_place(self.place)?;
         let digest = state_digest(digester, place, self.register, &self.memory);
@@ -93,8 +93,8 @@ impl Witness {
     // The memory's digest after the step: for a store from the second opening, with the register in place of the word.
     fn root_next<D: Digester>(&self, digester: &mut D, instruction: Instruction) -> Digest
         requires { instruction ≡ instruction_of self.now }
-        ensures value { result ≡ root_next hash self.now }
-        ensures seen { seen digester.new ≡ seen_all adds (seen digester.old) (store_part hash self.now) }
+        ensures value { result ≡ root_next D.hash self.now }
+        ensures seen { D.seen digester.new ≡ seen_all D.adds (D.seen digester.old) (store_part D.hash self.now) }
     {
         if !instruction.stores() {
             return self.memory;
@@ -117,8 +117,8 @@ impl Witness {
         requires cpu { cpu ≡ record { place = self.now.place; register = self.now.register } }
         requires instruction { instruction ≡ instruction_of self.now }
         requires operand { operand ≡ self.now.operand.word }
-        ensures value { result ≡ hash (next_part hash self.now) }
-        ensures seen { seen digester.new ≡ seen_all adds (seen digester.old) (store_part hash self.now ++ (next_part hash self.now ∷ [])) }
+        ensures value { result ≡ D.hash (next_part D.hash self.now) }
+        ensures seen { D.seen digester.new ≡ seen_all D.adds (D.seen digester.old) (store_part D.hash self.now ++ (next_part D.hash self.now ∷ [])) }
     {
         let root = self.root_next(digester, instruction);
         let mut next = cpu;
@@ -128,8 +128,8 @@ impl Witness {
 
     // Who wins: the claimer where everything fits the digest at the beginning and gives the one at the end.
     fn decide<D: Digester>(&self, digester: &mut D, start: &Digest, end: &Digest) -> Party
-        ensures value { result ≡ verdict hash start.now self.now end.now }
-        ensures seen { seen digester.new ≡ seen_all adds (seen digester.old) (digested hash start.now self.now) }
+        ensures value { result ≡ verdict D.hash start.now self.now end.now }
+        ensures seen { D.seen digester.new ≡ seen_all D.adds (D.seen digester.old) (digested D.hash start.now self.now) }
     {
         self.shape();
         let Some(cpu) = self.cpu_under(digester, start) else {
@@ -158,11 +158,11 @@ impl Witness {
     // At most 36 strings are digested, 53 where the instruction stores, and the answer rests on these alone.
     // Where the claimer wins from the digest of a state, the end is the next state's digest, or a collision is at hand.
     pub fn judge<D: Digester>(&self, digester: &mut D, start: &Digest, end: &Digest) -> Party
-        ensures value { result ≡ verdict hash start.now self.now end.now }
-        ensures seen { seen digester.new ≡ seen_all adds (seen digester.old) (digested hash start.now self.now) }
-        ensures few { length (digested hash start.now self.now) ≤ (if storing (instruction_of self.now) then 53 else 36) }
-        ensures rests { (k : Hash) → Agree hash k (digested hash start.now self.now) → result ≡ verdict k start.now self.now end.now }
-        ensures sound { (s : State) → Valid s → start.now ≡ digest hash s → result ≡ Claimer → (end.now ≡ digest hash (step s)) ⊎ Found hash s self.now }
+        ensures value { result ≡ verdict D.hash start.now self.now end.now }
+        ensures seen { D.seen digester.new ≡ seen_all D.adds (D.seen digester.old) (digested D.hash start.now self.now) }
+        ensures few { length (digested D.hash start.now self.now) ≤ (if storing (instruction_of self.now) then 53 else 36) }
+        ensures rests { (k : Hash) → Agree D.hash k (digested D.hash start.now self.now) → result ≡ verdict k start.now self.now end.now }
+        ensures sound { (s : State) → Valid s → start.now ≡ digest D.hash s → result ≡ Claimer → (end.now ≡ digest D.hash (step s)) ⊎ Found D.hash s self.now }
     {
         self.shape();
         self.decide(digester, start, end)
@@ -175,8 +175,8 @@ impl Witness {
         digester: &mut D,
         own: &Witness,
     ) -> Option<(Preimage, Preimage)>
-        ensures value { two_bytes result ≡ first_difference hash self.now own.now }
-        ensures collides { (s : State) → own.now ≡ shown hash s → Found hash s self.now → Collides hash result }
+        ensures value { two_bytes result ≡ first_difference D.hash self.now own.now }
+        ensures collides { (s : State) → own.now ≡ shown D.hash s → Found D.hash s self.now → Collides D.hash result }
     {
         let state = state_preimage(self.place, self.register, &self.memory);
         let own_state = state_preimage(own.place, own.register, &own.memory);
