@@ -18,7 +18,7 @@ loop-place-preserved c =
     let lb : c.loop-place.place < length c.args.before.now = search rules in
     elim c.if-before-place.branch [
       | then-before-place+in-ok-push w ↦
-          ap (λ v. vec_items v ++ rest) w.changes-is ∙ ap (λ xs. xs ++ rest) w.in-ok-push.ensures.items
+          ap (λ v. vec_items v ++ rest) w.changes-is ∙ ap (λ xs. xs ++ rest) w.in_ok-push.ensures.items
           ∙ differing_more i b a cs lb la (λ e. omega (arith, w.if-before-place.true)) ∙ c.loop-place.invariant
       | else-before-place w ↦ ap (λ v. vec_items v ++ rest) w.changes-is ∙ differing_same i b a cs lb la (omega (arith, w.if-before-place.false)) ∙ c.loop-place.invariant
     ]

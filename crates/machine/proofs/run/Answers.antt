@@ -10,7 +10,7 @@ loop-done-preserved g c =
     let k = c.min-slice.result in
     let n = c.args.steps in
     let fits : c.loop-done.done + c.min-slice.result ≤ c.args.steps = search rules in
-    (ap (run (n - (i + k))) c.run-slice-next.ensures ∙ sym (run_some n i k _ fits) ∙ c.loop-done.invariant.0, fits, search rules)
+    (ap (run (n - (i + k))) c.run_slice-next.ensures ∙ sym (run_some n i k _ fits) ∙ c.loop-done.invariant.0, fits, search rules)
 
 pub returns : goal.returns
 returns g c =

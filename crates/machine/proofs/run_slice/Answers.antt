@@ -6,8 +6,8 @@ use Rattle.machine.proofs.run_slice.Goals as goal
 pub loop-init : goal.loop-init
 loop-init c = run_none _ _
 
-pub returns-then-has-halted : goal.returns-then-has-halted
-returns-then-has-halted c = sym (halt_run (c.args.steps - c.loop.counter) _ (c.if-has-halted.ensures.0 refl)) ∙ c.loop.invariant
+pub returns-then-has_halted : goal.returns-then-has_halted
+returns-then-has_halted c = sym (halt_run (c.args.steps - c.loop.counter) _ (c.if-has_halted.ensures.0 refl)) ∙ c.loop.invariant
 
 pub loop-preserved : goal.loop-preserved
 loop-preserved c =

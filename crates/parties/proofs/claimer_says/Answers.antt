@@ -6,12 +6,12 @@ use Rattle.parties.proofs.claimer_says.Goals as goal
 pub power-requires-in-Bisecting : goal.power-requires-in-Bisecting
 power-requires-in-Bisecting g c = bisecting_small _ c.args.referee.now.ok c.in-Bisecting.is
 
-pub returns-in-ok-claimed : goal.returns-in-ok-claimed
-returns-in-ok-claimed g c = says_claim g.D.Digester.hash (own c.args.history.now) _ _ _ c.in-ok-claimed.ensures c.in-Claiming.is c.power.ensures.value
+pub returns-in_ok-claimed : goal.returns-in_ok-claimed
+returns-in_ok-claimed g c = says_claim g.D.Digester.hash (own c.args.history.now) _ _ _ c.in_ok-claimed.ensures c.in-Claiming.is c.power.ensures.value
 
-pub returns-in-ok-middle : goal.returns-in-ok-middle
-returns-in-ok-middle g c =
-    says_middle g.D.Digester.hash (own c.args.history.now) _ _ _ c.in-ok-middle.ensures c.args.n c.in-Bisecting.is (λ j. c.from.ensures j + c.power-in-Bisecting.ensures.value j)
+pub returns-in_ok-middle : goal.returns-in_ok-middle
+returns-in_ok-middle g c =
+    says_middle g.D.Digester.hash (own c.args.history.now) _ _ _ c.in_ok-middle.ensures c.args.n c.in-Bisecting.is (λ j. c.from.ensures j + c.power-in-Bisecting.ensures.value j)
 
-pub returns-in-ok-witness : goal.returns-in-ok-witness
-returns-in-ok-witness g c = says_step g.D.Digester.hash (own c.args.history.now) _ _ c.args.n _ c.in-Proving.is c.from-in-Proving.ensures c.in-ok-witness.ensures.value
+pub returns-in_ok-witness : goal.returns-in_ok-witness
+returns-in_ok-witness g c = says_step g.D.Digester.hash (own c.args.history.now) _ _ c.args.n _ c.in-Proving.is c.from-in-Proving.ensures c.in_ok-witness.ensures.value

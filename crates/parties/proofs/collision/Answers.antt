@@ -11,7 +11,7 @@ returns g c =
     let s = own c.args.history.now in
     let shown = c.args.shown.now in
     let dispute = c.args.dispute.now in
-    let mine = c.in-ok-own.ensures.value ∙ ap (λ t. witness g.D.Digester.hash (run t (own c.args.history.now))) c.from.ensures in
+    let mine = c.in_ok-own.ensures.value ∙ ap (λ t. witness g.D.Digester.hash (run t (own c.args.history.now))) c.from.ensures in
     record {
       value = c.difference.ensures.value ∙ ap (first_difference h shown) mine;
       collides = λ lost. c.difference.ensures.collides (run dispute.from s) mine (found h g.met.D.Digester.whole s dispute shown lost);

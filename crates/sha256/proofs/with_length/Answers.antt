@@ -4,5 +4,5 @@ use Rattle.sha256.proofs.with_length.Goals as goal
 
 pub returns : goal.returns
 returns c =
-    with_length_is c.args.block c.copy-from-slice.new.self (search rules)
-    ∙ ap (λ ys. take 56 c.args.block ++ ys) (c.copy-from-slice.ensures.after ∙ c.to-be-bytes.ensures ∙ be64_mod (c.args.len * 8))
+    with_length_is c.args.block c.copy_from_slice.new.self (search rules)
+    ∙ ap (λ ys. take 56 c.args.block ++ ys) (c.copy_from_slice.ensures.after ∙ c.to_be_bytes.ensures ∙ be64_mod (c.args.len * 8))

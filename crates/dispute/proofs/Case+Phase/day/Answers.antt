@@ -14,8 +14,8 @@ returns-then-day-eq0 c h g = day_wrong (bisection (machine h) g) c.args.self c.a
   | then-day-eq0-via-else-day-eq0+then-day-self-2 w ↦ omega arith
 ])
 
-pub returns-then-saturating-sub-ge2 : goal.returns-then-saturating-sub-ge2
-returns-then-saturating-sub-ge2 c h g = day-late (bisection (machine h) g) c.args.self c.args.day (omega arith) _ (omega arith) (c.late-phase.ensures h g)
+pub returns-then-saturating_sub-ge2 : goal.returns-then-saturating_sub-ge2
+returns-then-saturating_sub-ge2 c h g = day-late (bisection (machine h) g) c.args.self c.args.day (omega arith) _ (omega arith) (c.late-phase.ensures h g)
 
-pub returns-else-saturating-sub-ge2 : goal.returns-else-saturating-sub-ge2
-returns-else-saturating-sub-ge2 c h g = day-early (bisection (machine h) g) c.args.self c.args.day (omega arith) (omega arith)
+pub returns-else-saturating_sub-ge2 : goal.returns-else-saturating_sub-ge2
+returns-else-saturating_sub-ge2 c h g = day-early (bisection (machine h) g) c.args.self c.args.day (omega arith) (omega arith)

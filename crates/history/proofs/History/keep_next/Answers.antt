@@ -5,16 +5,16 @@ use Rattle.history.specs.Keeping.{spacing}
 use Rattle.history.proofs.Slices.{run_on, keeps_next}
 use Rattle.history.proofs.History.keep_next.Goals as goal
 
-pub invariant-of-self : goal.invariant-of-self
-invariant-of-self c =
+pub invariant_of-self : goal.invariant_of-self
+invariant_of-self c =
     let h = c.args.self.now in
     let s : State = record { cpu = c.args.cpu; memory = c.args.memory.now } in
-    let x : Slice = record { cpu = c.run-on-next.result; changes = c.in-ok-changes.changes } in
+    let x : Slice = record { cpu = c.run_on-next.result; changes = c.in_ok-changes.changes } in
     let len : vec_len c.args.self.now.slices ≡ length (vec_items c.args.self.now.slices) = search rules in
-    let size : length c.copy-from-slice.new.self ≡ length c.run-on-next.new.memory = search rules in
+    let size : length c.copy_from_slice.new.self ≡ length c.run_on-next.new.memory = search rules in
     let kept =
-    keeps_next (vec_items h.program) (vec_items h.slices) _ x _ s c.copy-from-slice.new.self c.run-on-next.new.memory (vec_len h.slices) h.kept len c.requires.state
-    c.copy-from-slice.ensures.after size c.in-ok-changes.ensures c.run-on-next.ensures c.push.ensures.items in
+    keeps_next (vec_items h.program) (vec_items h.slices) _ x _ s c.copy_from_slice.new.self c.run_on-next.new.memory (vec_len h.slices) h.kept len c.requires.state
+    c.copy_from_slice.ensures.after size c.in_ok-changes.ensures c.run_on-next.ensures c.push.ensures.items in
     (h.size, (kept, tt))
 
 pub returns : goal.returns
@@ -22,6 +22,6 @@ returns c =
     let n = vec_len c.args.self.now.slices in
     record {
       program = refl;
-      slices = c.in-ok-push.ensures.len;
-      state = run_on (n * spacing) spacing ((n + 1) * spacing) _ (record { cpu = c.args.cpu; memory = c.args.memory.now }) _ (omega arith) c.requires.state c.run-on-next.ensures;
+      slices = c.in_ok-push.ensures.len;
+      state = run_on (n * spacing) spacing ((n + 1) * spacing) _ (record { cpu = c.args.cpu; memory = c.args.memory.now }) _ (omega arith) c.requires.state c.run_on-next.ensures;
     }

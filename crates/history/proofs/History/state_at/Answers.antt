@@ -9,12 +9,12 @@ pub returns : goal.returns
 returns c =
     let done = c.min-slices.result * spacing in
     let left = c.args.steps - done in
-    let v = c.in-ok-cpu.memory in
+    let v = c.in_ok-cpu.memory in
     let all : c.args.steps ≡ c.min-slices.result * spacing + (c.args.steps - c.min-slices.result * spacing) = search rules in
-    let size : length c.run-on-last.new.memory ≡ c.in-ok-cpu.memory.len = search rules in
+    let size : length c.run_on-last.new.memory ≡ c.in_ok-cpu.memory.len = search rules in
     record {
       size = search rules;
-      state = ap (λ m. record { cpu = c.run-on-last.result; memory = m }) (with_items_is v c.run-on-last.new.memory size)
-          ∙ run_on done left c.args.steps _ (record { cpu = c.in-ok-cpu.cpu; memory = vec_items v }) _ all c.in-ok-cpu.ensures.state
-          (c.run-on-last.ensures ∙ ap (λ m. run left (record { cpu = c.in-ok-cpu.cpu; memory = m })) c.deref-mut.ensures.value);
+      state = ap (λ m. record { cpu = c.run_on-last.result; memory = m }) (with_items_is v c.run_on-last.new.memory size)
+          ∙ run_on done left c.args.steps _ (record { cpu = c.in_ok-cpu.cpu; memory = vec_items v }) _ all c.in_ok-cpu.ensures.state
+          (c.run_on-last.ensures ∙ ap (λ m. run left (record { cpu = c.in_ok-cpu.cpu; memory = m })) c.deref_mut.ensures.value);
     }

@@ -10,7 +10,7 @@ returns c =
     let i = c.decode-instruction.result in
     let m = c.args.memory.now in
     let w = get_or m c.args.self.now.place 0 in
-    let place = c.place-of-place.ensures in
+    let place = c.place_of-place.ensures in
     let kept = ap (λ a. set m a c.args.self.now.register) place in
     step_to _ i _ _ c.decode-instruction.ensures (c.execute.ensures ∙ ap (λ a. cpu_after i c.args.self.now (get_or m a 0)) place)
     (elim c.if-stores.branch [

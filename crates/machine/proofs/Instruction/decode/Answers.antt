@@ -4,4 +4,4 @@ use Rattle.machine.proofs.Instruction.decode.Goals as goal
 
 pub returns : goal.returns
 unfolding decode
-returns c = c.numbered.ensures ∙ ap (instruction (c.args.word / 65536)) c.place-of.ensures
+returns c = c.numbered.ensures ∙ ap (instruction (c.args.word / 65536)) c.place_of.ensures

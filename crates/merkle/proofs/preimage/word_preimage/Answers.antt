@@ -5,4 +5,4 @@ use Rattle.merkle.proofs.preimage.word_preimage.Goals as goal
 
 pub returns : goal.returns
 unfolding be4 word_preimage
-returns c = parts_all _ _ 5 (search rules) (part_more _ _ _ (be4 c.args.word) (0 ∷ []) 1 5 c.put-2.ensures c.put.ensures c.to-be-bytes.ensures refl)
+returns c = parts_all _ _ 5 (search rules) (part_more _ _ _ (be4 c.args.word) (0 ∷ []) 1 5 c.put-2.ensures c.put.ensures c.to_be_bytes.ensures refl)

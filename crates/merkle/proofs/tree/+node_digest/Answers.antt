@@ -5,33 +5,33 @@ use Rattle.merkle.proofs.tree.+node_digest.Goals as goal
 pub returns-then-level-eq0 : goal.returns-then-level-eq0
 returns-then-level-eq0 g t c =
     let d = g.D.Digester in
-    let e = c.word-digest.ensures in
+    let e = c.word_digest.ensures in
     record {
-      value = e.value ∙ node_leaf d.hash c.args.level c.args.index _ _ c.if-level-eq0.true c.word-at.ensures;
-      seen = seen_leaf d.hash c.args.level c.args.index _ _ c.if-level-eq0.true c.word-at.ensures d.adds _ _ e.seen;
+      value = e.value ∙ node_leaf d.hash c.args.level c.args.index _ _ c.if-level-eq0.true c.word_at.ensures;
+      seen = seen_leaf d.hash c.args.level c.args.index _ _ c.if-level-eq0.true c.word_at.ensures d.adds _ _ e.seen;
     }
 
-pub overflow-mul-index : goal.overflow-mul-index
-overflow-mul-index g t c = let p = parts c.args.level c.args.index 65536 c.if-level-eq0.false c.requires in search rules
+pub overflow_mul-index : goal.overflow_mul-index
+overflow_mul-index g t c = let p = parts c.args.level c.args.index 65536 c.if-level-eq0.false c.requires in search rules
 
-pub node-digest-left-requires : goal.node-digest-left-requires
-node-digest-left-requires g t c κs within = (search rules, (within, (parts c.args.level c.args.index 65536 c.if-level-eq0.false c.requires).left))
+pub node_digest-left-requires : goal.node_digest-left-requires
+node_digest-left-requires g t c κs within = (search rules, (within, (parts c.args.level c.args.index 65536 c.if-level-eq0.false c.requires).left))
 
-pub overflow-mul-index-2 : goal.overflow-mul-index-2
-overflow-mul-index-2 g t c = let p = parts c.args.level c.args.index 65536 c.if-level-eq0.false c.requires in search rules
+pub overflow_mul-index-2 : goal.overflow_mul-index-2
+overflow_mul-index-2 g t c = let p = parts c.args.level c.args.index 65536 c.if-level-eq0.false c.requires in search rules
 
-pub overflow-add-index : goal.overflow-add-index
-overflow-add-index g t c = let p = parts c.args.level c.args.index 65536 c.if-level-eq0.false c.requires in search rules
+pub overflow_add-index : goal.overflow_add-index
+overflow_add-index g t c = let p = parts c.args.level c.args.index 65536 c.if-level-eq0.false c.requires in search rules
 
-pub node-digest-right-requires : goal.node-digest-right-requires
-node-digest-right-requires g t c κs within = (search rules, (within, (parts c.args.level c.args.index 65536 c.if-level-eq0.false c.requires).right))
+pub node_digest-right-requires : goal.node_digest-right-requires
+node_digest-right-requires g t c κs within = (search rules, (within, (parts c.args.level c.args.index 65536 c.if-level-eq0.false c.requires).right))
 
 pub returns : goal.returns
 returns g t c =
     let d = g.D.Digester in
-    let l = c.node-digest-left.ensures in
-    let r = c.node-digest-right.ensures in
-    let p = c.pair-digest.ensures in
+    let l = c.node_digest-left.ensures in
+    let r = c.node_digest-right.ensures in
+    let p = c.pair_digest.ensures in
     record {
       value = p.value ∙ node_join d.hash c.args.level c.args.index c.args.memory.now _ _ c.if-level-eq0.false l.value r.value;
       seen = seen_join d.hash c.args.level c.args.index c.args.memory.now _ _ c.if-level-eq0.false l.value r.value d.adds _ _ _ _ l.seen r.seen p.seen;

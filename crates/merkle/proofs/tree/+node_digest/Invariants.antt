@@ -1,4 +1,4 @@
 use Rattle.merkle.proofs.tree.+node_digest.Given as goal
 
-abbrev pub decreases-node-digest : goal.decreases-node-digest
-decreases-node-digest g l = l.level
+abbrev pub decreases-node_digest : goal.decreases-node_digest
+decreases-node_digest g l = l.level

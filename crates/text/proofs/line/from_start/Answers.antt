@@ -3,7 +3,7 @@ use Rattle.text.proofs.Wholes.{not_refused, line_after}
 use Rattle.text.proofs.line.from_start.Goals as goal
 
 pub unreachable-requires : goal.unreachable-requires
-unreachable-requires g c = not_refused c.args.memory.now c.run.new.memory c.args.steps c.run.result c.requires c.run.ensures.cpu c.in-default.is
+unreachable-requires g c = not_refused c.args.memory.now c.run.new.memory c.args.steps c.run.result c.requires c.run.ensures.cpu c.in_default.is
 
 pub returns : goal.returns
 returns g c =

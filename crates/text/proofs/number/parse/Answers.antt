@@ -4,11 +4,11 @@ use Rattle.text.specs.Text.{up_to}
 use Rattle.text.proofs.Digits.{number_more, number_not, number_whole, number_end}
 use Rattle.text.proofs.number.parse.Goals as goal
 
-pub returns-in-default : goal.returns-in-default
-returns-in-default c =
+pub returns-in_default : goal.returns-in_default
+returns-in_default c =
     let l = c.loop-byte in
-    sym (number_not c.args.text.now l.value l.byte-index c.loop-byte-test.true c.args.limit (search rules) c.in-default.ensures)
-    ∙ number_whole c.args.text.now c.args.limit l.value l.byte-index (sym c.if-is-empty.ensures) l.invariant
+    sym (number_not c.args.text.now l.value l.byte-index c.loop-byte-test.true c.args.limit (search rules) c.in_default.ensures)
+    ∙ number_whole c.args.text.now c.args.limit l.value l.byte-index (sym c.if-is_empty.ensures) l.invariant
 
 pub loop-byte-preserved : goal.loop-byte-preserved
 loop-byte-preserved c =
@@ -20,10 +20,10 @@ pub returns-then-value-limit : goal.returns-then-value-limit
 returns-then-value-limit c =
     let l = c.loop-byte in
     sym (cond-false _ _ _ (lt-leb l.value c.args.limit c.if-value-limit.true))
-    ∙ number_end c.args.text.now c.args.limit l.value l.byte-index (sym c.if-is-empty.ensures) l.invariant c.loop-byte-test.false
+    ∙ number_end c.args.text.now c.args.limit l.value l.byte-index (sym c.if-is_empty.ensures) l.invariant c.loop-byte-test.false
 
 pub returns : goal.returns
 returns c =
     let l = c.loop-byte in
     sym (cond-true _ _ _ (le-leb l.value c.args.limit c.if-value-limit.false))
-    ∙ number_end c.args.text.now c.args.limit l.value l.byte-index (sym c.if-is-empty.ensures) l.invariant c.loop-byte-test.false
+    ∙ number_end c.args.text.now c.args.limit l.value l.byte-index (sym c.if-is_empty.ensures) l.invariant c.loop-byte-test.false

@@ -2,23 +2,23 @@ use Rattle.std.proofs.Common.{sym, ◌∙◌}
 use Rattle.witness.proofs.Checks.{high_refused, high_unseen, low_taken, low_refused, low_seen}
 use Rattle.witness.proofs.Witness.cpu_under.Goals as goal
 
-pub returns-in-err-place : goal.returns-in-err-place
-returns-in-err-place g c =
+pub returns-in_err-place : goal.returns-in_err-place
+returns-in_err-place g c =
     let d = g.D.Digester in
     let o = c.args.self.now in
     let start = c.args.start.now in
-    let p = c.low-place.ensures in
-    let none = c.in-err-place.was in
-    record { value = c.from-residual.ensures ∙ high_refused d.hash start o _ p none; seen = high_unseen d.hash start o _ p d.adds _ none }
+    let p = c.low_place.ensures in
+    let none = c.in_err-place.was in
+    record { value = c.from_residual.ensures ∙ high_refused d.hash start o _ p none; seen = high_unseen d.hash start o _ p d.adds _ none }
 
 pub returns-then-same : goal.returns-then-same
 returns-then-same g c =
     let d = g.D.Digester in
     let o = c.args.self.now in
     let start = c.args.start.now in
-    let p = c.low-place.ensures in
-    let some = c.in-ok-place.was in
-    let s = c.state-digest-digest.ensures in
+    let p = c.low_place.ensures in
+    let some = c.in_ok-place.was in
+    let s = c.state_digest-digest.ensures in
     record {
       value = low_taken d.hash start o _ p _ some _ s.value (sym c.same.ensures ∙ c.if-same.true);
       seen = low_seen d.hash start o _ p _ some _ s.value d.adds _ _ s.seen;
@@ -29,9 +29,9 @@ returns-else-same g c =
     let d = g.D.Digester in
     let o = c.args.self.now in
     let start = c.args.start.now in
-    let p = c.low-place.ensures in
-    let some = c.in-ok-place.was in
-    let s = c.state-digest-digest.ensures in
+    let p = c.low_place.ensures in
+    let some = c.in_ok-place.was in
+    let s = c.state_digest-digest.ensures in
     record {
       value = low_refused d.hash start o _ p _ some _ s.value (sym c.same.ensures ∙ c.if-same.false);
       seen = low_seen d.hash start o _ p _ some _ s.value d.adds _ _ s.seen;

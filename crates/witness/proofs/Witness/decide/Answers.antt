@@ -2,56 +2,56 @@ use Rattle.std.proofs.Common.{true, false, sym}
 use Rattle.witness.proofs.Checks.{state_fails, instruction_fails, operand_fails, all_seen, ends_with}
 use Rattle.witness.proofs.Witness.decide.Goals as goal
 
-pub returns-in-default : goal.returns-in-default
-returns-in-default g c =
+pub returns-in_default : goal.returns-in_default
+returns-in_default g c =
     let d = g.D.Digester in
-    let u = c.cpu-under.ensures in
-    let r = state_fails d.adds d.hash c.args.start.now c.args.self.now c.args.end.now c.shape.ensures.rest _ _ _ u.value u.seen c.in-default.is in
+    let u = c.cpu_under.ensures in
+    let r = state_fails d.adds d.hash c.args.start.now c.args.self.now c.args.end.now c.shape.ensures.rest _ _ _ u.value u.seen c.in_default.is in
     record { value = r.0; seen = r.1 }
 
-pub returns-in-default-word-under : goal.returns-in-default-word-under
-returns-in-default-word-under g c =
+pub returns-in_default-word_under : goal.returns-in_default-word_under
+returns-in_default-word_under g c =
     let d = g.D.Digester in
-    let u = c.cpu-under.ensures in
-    let i = c.word-under.ensures in
+    let u = c.cpu_under.ensures in
+    let i = c.word_under.ensures in
     let r = instruction_fails d.adds d.hash c.args.start.now c.args.self.now c.args.end.now c.shape.ensures.rest _ _ _ u.value u.seen
-    c.in-Some.cpu c.in-Some.is _ _ i.value i.seen c.in-default-word-under.is in
+    c.in-Some.cpu c.in-Some.is _ _ i.value i.seen c.in_default-word_under.is in
     record { value = r.0; seen = r.1 }
 
-pub returns-in-default-word-under-2 : goal.returns-in-default-word-under-2
-returns-in-default-word-under-2 g c =
+pub returns-in_default-word_under-2 : goal.returns-in_default-word_under-2
+returns-in_default-word_under-2 g c =
     let d = g.D.Digester in
-    let u = c.cpu-under.ensures in
-    let i = c.word-under.ensures in
-    let o = c.word-under-2.ensures in
+    let u = c.cpu_under.ensures in
+    let i = c.word_under.ensures in
+    let o = c.word_under-2.ensures in
     let r = operand_fails d.adds d.hash c.args.start.now c.args.self.now c.args.end.now c.shape.ensures.rest _ _ _ u.value u.seen
-    c.in-Some.cpu c.in-Some.is _ _ i.value i.seen c.in-Some-word-under.word c.in-Some-word-under.is _ c.place-of.ensures _ _ o.value o.seen c.in-default-word-under-2.is in
+    c.in-Some.cpu c.in-Some.is _ _ i.value i.seen c.in-Some-word_under.word c.in-Some-word_under.is _ c.place_of.ensures _ _ o.value o.seen c.in_default-word_under-2.is in
     record { value = r.0; seen = r.1 }
 
 pub returns-then-not-same : goal.returns-then-not-same
 returns-then-not-same g c =
     let d = g.D.Digester in
-    let u = c.cpu-under.ensures in
-    let i = c.word-under.ensures in
-    let o = c.word-under-2.ensures in
-    let n = c.next-digest-next.ensures in
+    let u = c.cpu_under.ensures in
+    let i = c.word_under.ensures in
+    let o = c.word_under-2.ensures in
+    let n = c.next_digest-next.ensures in
     record {
       value = ends_with d.adds d.hash c.args.start.now c.args.self.now c.args.end.now c.shape.ensures.rest _ _ _ u.value u.seen
-          c.in-Some.cpu c.in-Some.is _ _ i.value i.seen c.in-Some-word-under.word c.in-Some-word-under.is _ c.place-of.ensures _ _ o.value o.seen c.in-Some-word-under-2.operand c.in-Some-word-under-2.is _ _ n.value n.seen false (sym c.if-not-same.ensures);
+          c.in-Some.cpu c.in-Some.is _ _ i.value i.seen c.in-Some-word_under.word c.in-Some-word_under.is _ c.place_of.ensures _ _ o.value o.seen c.in-Some-word_under-2.operand c.in-Some-word_under-2.is _ _ n.value n.seen false (sym c.if-not-same.ensures);
       seen = all_seen d.adds d.hash c.args.start.now c.args.self.now c.args.end.now c.shape.ensures.rest _ _ _ u.value u.seen
-          c.in-Some.cpu c.in-Some.is _ _ i.value i.seen c.in-Some-word-under.word c.in-Some-word-under.is _ c.place-of.ensures _ _ o.value o.seen c.in-Some-word-under-2.operand c.in-Some-word-under-2.is _ _ n.value n.seen;
+          c.in-Some.cpu c.in-Some.is _ _ i.value i.seen c.in-Some-word_under.word c.in-Some-word_under.is _ c.place_of.ensures _ _ o.value o.seen c.in-Some-word_under-2.operand c.in-Some-word_under-2.is _ _ n.value n.seen;
     }
 
 pub returns : goal.returns
 returns g c =
     let d = g.D.Digester in
-    let u = c.cpu-under.ensures in
-    let i = c.word-under.ensures in
-    let o = c.word-under-2.ensures in
-    let n = c.next-digest-next.ensures in
+    let u = c.cpu_under.ensures in
+    let i = c.word_under.ensures in
+    let o = c.word_under-2.ensures in
+    let n = c.next_digest-next.ensures in
     record {
       value = ends_with d.adds d.hash c.args.start.now c.args.self.now c.args.end.now c.shape.ensures.rest _ _ _ u.value u.seen
-          c.in-Some.cpu c.in-Some.is _ _ i.value i.seen c.in-Some-word-under.word c.in-Some-word-under.is _ c.place-of.ensures _ _ o.value o.seen c.in-Some-word-under-2.operand c.in-Some-word-under-2.is _ _ n.value n.seen true (sym c.if-not-same.ensures);
+          c.in-Some.cpu c.in-Some.is _ _ i.value i.seen c.in-Some-word_under.word c.in-Some-word_under.is _ c.place_of.ensures _ _ o.value o.seen c.in-Some-word_under-2.operand c.in-Some-word_under-2.is _ _ n.value n.seen true (sym c.if-not-same.ensures);
       seen = all_seen d.adds d.hash c.args.start.now c.args.self.now c.args.end.now c.shape.ensures.rest _ _ _ u.value u.seen
-          c.in-Some.cpu c.in-Some.is _ _ i.value i.seen c.in-Some-word-under.word c.in-Some-word-under.is _ c.place-of.ensures _ _ o.value o.seen c.in-Some-word-under-2.operand c.in-Some-word-under-2.is _ _ n.value n.seen;
+          c.in-Some.cpu c.in-Some.is _ _ i.value i.seen c.in-Some-word_under.word c.in-Some-word_under.is _ c.place_of.ensures _ _ o.value o.seen c.in-Some-word_under-2.operand c.in-Some-word_under-2.is _ _ n.value n.seen;
     }

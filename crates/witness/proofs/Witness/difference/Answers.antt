@@ -8,23 +8,23 @@ returns-then-not-same g c =
     let h = g.D.Digester.hash in
     let o = c.args.self.now in
     let own = c.args.own.now in
-    let e = states_differ h o own _ _ c.state-preimage-state.ensures c.state-preimage-own-state.ensures (sym c.if-not-same.ensures) in
-    record { value = e; collides = found_collides h o own (Some (State c.state-preimage-state.result, State c.state-preimage-own-state.result)) e }
+    let e = states_differ h o own _ _ c.state_preimage-state.ensures c.state_preimage-own_state.ensures (sym c.if-not-same.ensures) in
+    record { value = e; collides = found_collides h o own (Some (State c.state_preimage-state.result, State c.state_preimage-own_state.result)) e }
 
-pub returns-then-is-some : goal.returns-then-is-some
-returns-then-is-some g c =
+pub returns-then-is_some : goal.returns-then-is_some
+returns-then-is_some g c =
     let h = g.D.Digester.hash in
     let o = c.args.self.now in
     let own = c.args.own.now in
-    let e = ways_differ h o own _ _ c.state-preimage-state.ensures c.state-preimage-own-state.ensures (sym c.if-not-same.ensures) _ c.difference-on-the-way.ensures.value
-    (sym c.is-some.ensures ∙ c.if-is-some.true) in
-    record { value = e; collides = found_collides h o own c.difference-on-the-way.result e }
+    let e = ways_differ h o own _ _ c.state_preimage-state.ensures c.state_preimage-own_state.ensures (sym c.if-not-same.ensures) _ c.difference-on_the_way.ensures.value
+    (sym c.is_some.ensures ∙ c.if-is_some.true) in
+    record { value = e; collides = found_collides h o own c.difference-on_the_way.result e }
 
 pub returns : goal.returns
 returns g c =
     let h = g.D.Digester.hash in
     let o = c.args.self.now in
     let own = c.args.own.now in
-    let e = others_differ h o own _ _ c.state-preimage-state.ensures c.state-preimage-own-state.ensures (sym c.if-not-same.ensures) _ c.difference-on-the-way.ensures.value
-    (sym c.is-some.ensures ∙ c.if-is-some.false) _ _ c.difference.result (c.from.ensures ∙ c.place-of.ensures) (c.from-2.ensures ∙ c.place-of-2.ensures) c.difference.ensures.value in
+    let e = others_differ h o own _ _ c.state_preimage-state.ensures c.state_preimage-own_state.ensures (sym c.if-not-same.ensures) _ c.difference-on_the_way.ensures.value
+    (sym c.is_some.ensures ∙ c.if-is_some.false) _ _ c.difference.result (c.from.ensures ∙ c.place_of.ensures) (c.from-2.ensures ∙ c.place_of-2.ensures) c.difference.ensures.value in
     record { value = e; collides = found_collides h o own c.difference.result e }

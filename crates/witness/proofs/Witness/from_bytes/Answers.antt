@@ -6,4 +6,4 @@ returns-then-bytes-ne-LENGTH c = other_length c.args.bytes.now c.if-bytes-ne-LEN
 
 pub returns : goal.returns
 returns c =
-    witness_from_lem c.args.bytes.now _ c.if-bytes-ne-LENGTH.false c.word-at.ensures c.word-at-2.ensures c.digest-at.ensures c.opening-at.ensures c.opening-at-2.ensures
+    witness_from_lem c.args.bytes.now _ c.if-bytes-ne-LENGTH.false c.word_at.ensures c.word_at-2.ensures c.digest_at.ensures c.opening_at.ensures c.opening_at-2.ensures

@@ -14,6 +14,6 @@ returns g c =
     let t = sym c.if-not-stores.ensures in
     let e = c.climb.ensures in
     record {
-      value = root_stored_lem d.hash c.args.self.now _ c.requires _ _ t c.place-of.ensures e.value;
-      seen = stored_seen d.hash c.args.self.now _ c.requires d.adds _ _ _ t c.place-of.ensures e.seen;
+      value = root_stored_lem d.hash c.args.self.now _ c.requires _ _ t c.place_of.ensures e.value;
+      seen = stored_seen d.hash c.args.self.now _ c.requires d.adds _ _ _ t c.place_of.ensures e.seen;
     }

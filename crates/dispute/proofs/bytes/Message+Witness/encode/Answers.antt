@@ -26,4 +26,4 @@ returns-in-Wrong c = written _ _ _ c.in-Wrong.is _ c.joined-in-Wrong.ensures (λ
 
 pub returns-in-Step : goal.returns-in-Step
 unfolding encode
-returns-in-Step c = written _ _ _ c.in-Step.is _ c.joined-in-Step.ensures (λ h. ap (λ b. 6 ∷ b) c.to-bytes.ensures.value) (λ h i. (omega arith, ap (parse 6) (sym c.to-bytes.ensures.value) ∙ c.to-bytes.ensures.reads))
+returns-in-Step c = written _ _ _ c.in-Step.is _ c.joined-in-Step.ensures (λ h. ap (λ b. 6 ∷ b) c.to_bytes.ensures.value) (λ h i. (omega arith, ap (parse 6) (sym c.to_bytes.ensures.value) ∙ c.to_bytes.ensures.reads))

@@ -15,8 +15,8 @@ returns-then-day-eq0 c = kept _ _ _ _ (λ h g. day_wrong (bisection (machine h) 
   | then-day-eq0-via-else-day-eq0+then-day-today-2 w ↦ omega arith
 ]))
 
-pub invariant-of-result : goal.invariant-of-result
-invariant-of-result c = (range_dawn _ c.args.self.case.phase _ c.at-dawn-phase.ensures c.args.self.ok, tt)
+pub invariant_of-result : goal.invariant_of-result
+invariant_of-result c = (range_dawn _ c.args.self.case.phase _ c.at_dawn-phase.ensures c.args.self.ok, tt)
 
 pub returns : goal.returns
-returns c = kept _ _ _ _ (λ h g. day_next (bisection (machine h) g) c.args.self.case c.args.day (omega arith) _ (c.at-dawn-phase.ensures h g))
+returns c = kept _ _ _ _ (λ h g. day_next (bisection (machine h) g) c.args.self.case c.args.day (omega arith) _ (c.at_dawn-phase.ensures h g))

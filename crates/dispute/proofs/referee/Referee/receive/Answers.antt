@@ -2,15 +2,15 @@ use Rattle.std.proofs.Common.{sym, refl, ◌∙◌}
 use Rattle.dispute.proofs.Kept.{not_read, not_turn, in_turn, range_sent}
 use Rattle.dispute.proofs.referee.Referee.receive.Goals as goal
 
-pub returns-in-default : goal.returns-in-default
-returns-in-default g c =
+pub returns-in_default : goal.returns-in_default
+returns-in_default g c =
     let d = g.D.Digester in
-    not_read d.hash g.met.D.Digester.whole d.adds _ _ c.args.self.case c.args.party _ refl (sym (c.decode.ensures d.hash) ∙ c.in-default.is)
+    not_read d.hash g.met.D.Digester.whole d.adds _ _ c.args.self.case c.args.party _ refl (sym (c.decode.ensures d.hash) ∙ c.in_default.is)
 
-pub returns-then-not-is-turn-of : goal.returns-then-not-is-turn-of
-returns-then-not-is-turn-of g c =
+pub returns-then-not-is_turn_of : goal.returns-then-not-is_turn_of
+returns-then-not-is_turn_of g c =
     let d = g.D.Digester in
-    not_turn d.hash g.met.D.Digester.whole d.adds _ _ c.args.self.case c.args.party _ _ (sym (c.decode.ensures d.hash) ∙ c.in-Some.is) refl (sym c.if-not-is-turn-of.ensures)
+    not_turn d.hash g.met.D.Digester.whole d.adds _ _ c.args.self.case c.args.party _ _ (sym (c.decode.ensures d.hash) ∙ c.in-Some.is) refl (sym c.if-not-is_turn_of.ensures)
 
 pub settle-requires : goal.settle-requires
 settle-requires g c =
@@ -21,5 +21,5 @@ pub returns : goal.returns
 returns g c =
     let d = g.D.Digester in
     let e = c.after-next.ensures in
-    in_turn d.hash g.met.D.Digester.whole d.adds _ _ c.args.self.case c.args.party _ _ (sym (c.decode.ensures d.hash) ∙ c.in-Some.is) (sym c.if-not-is-turn-of.ensures) e.seen e.few
+    in_turn d.hash g.met.D.Digester.whole d.adds _ _ c.args.self.case c.args.party _ _ (sym (c.decode.ensures d.hash) ∙ c.in-Some.is) (sym c.if-not-is_turn_of.ensures) e.seen e.few
     _ e.value _ _ (c.settle.ensures d.hash)

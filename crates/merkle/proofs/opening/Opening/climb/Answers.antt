@@ -9,7 +9,7 @@ loop-height-preserved g c =
     let d = g.D.Digester in
     let l = c.loop-height in
     let e = c.digest-parent.ensures in
-    let p = c.parent-preimage.ensures in
+    let p = c.parent_preimage.ensures in
     let within : c.loop-height.height < length c.args.self.now.siblings = search rules in (
       climb_more d.hash l.index l.digest _ _ _ within (e.value ∙ ap d.hash p) ∙ l.invariant.0,
       seen_more d.hash l.index l.digest _ _ _ within (e.value ∙ ap d.hash p) d.adds _ _ (e.seen ∙ ap (d.adds _) p) ∙ l.invariant.1,
@@ -19,7 +19,7 @@ pub returns : goal.returns
 returns g c =
     let d = g.D.Digester in
     let l = c.loop-height in
-    let w = c.word-digest-digest.ensures in
+    let w = c.word_digest-digest.ensures in
     let o = c.args.self.now in
     let past : length c.args.self.now.siblings ≤ c.loop-height.height = search rules in
     let n : length c.args.self.now.siblings ≡ 16 = search rules in

@@ -13,8 +13,8 @@ loop-level-preserved g c =
     let l = c.loop-level in
     let ws : c.loop-level.level < length c.args.one.now.siblings = search rules in
     let wt : c.loop-level.level < length c.args.other.now.siblings = search rules in
-    search_more h l.index l.other-index l.digest l.other-digest _ _ _ _ l.level ws wt c.parent-preimage-pair.ensures c.parent-preimage-other-pair.ensures
-    (two_bytes l.found) _ _ _ c.digest-parent.ensures.value c.digest-other-parent.ensures.value c.differ-higher.ensures ∙ l.invariant
+    search_more h l.index l.other_index l.digest l.other_digest _ _ _ _ l.level ws wt c.parent_preimage-pair.ensures c.parent_preimage-other_pair.ensures
+    (two_bytes l.found) _ _ _ c.digest-parent.ensures.value c.digest-other_parent.ensures.value c.differ-higher.ensures ∙ l.invariant
 
 pub returns : goal.returns
 returns g c =
@@ -22,8 +22,8 @@ returns g c =
     let l = c.loop-level in
     let past : length c.args.one.now.siblings ≤ c.loop-level.level = search rules in
     record {
-      value = sym (search_all h l.index l.other-index l.digest l.other-digest _ _ l.level (two_bytes l.found) past) ∙ l.invariant
-          ∙ search_start h c.args.place c.args.other-place _ _ _ _ _ _ _ _ _ c.word-preimage-word.ensures c.word-preimage-other-word.ensures
-          c.digest-digest.ensures.value c.digest-other-digest.ensures.value c.differ-found.ensures;
+      value = sym (search_all h l.index l.other_index l.digest l.other_digest _ _ l.level (two_bytes l.found) past) ∙ l.invariant
+          ∙ search_start h c.args.place c.args.other_place _ _ _ _ _ _ _ _ _ c.word_preimage-word.ensures c.word_preimage-other_word.ensures
+          c.digest-digest.ensures.value c.digest-other_digest.ensures.value c.differ-found.ensures;
       binds = binds h g.met.D.Digester.whole c.args.place c.args.one.now c.args.other.now c.shape.ensures c.shape-2.ensures;
     }

@@ -10,5 +10,5 @@ invariant-loop-level g l =
     let h = g.D.Digester.hash in
     let ss = l.one.siblings in
     let ts = l.other.siblings in
-    or_else (last_difference (way_preimages h l.index l.digest (drop l.level ss)) (way_preimages h l.other-index l.other-digest (drop l.level ts))) (two_bytes l.found) ≡
-    or_else (last_difference (way_preimages h l.place l.initial.digest ss) (way_preimages h l.other-place l.initial.other-digest ts)) (two_bytes l.initial.found)
+    or_else (last_difference (way_preimages h l.index l.digest (drop l.level ss)) (way_preimages h l.other_index l.other_digest (drop l.level ts))) (two_bytes l.found) ≡
+    or_else (last_difference (way_preimages h l.place l.initial.digest ss) (way_preimages h l.other_place l.initial.other_digest ts)) (two_bytes l.initial.found)

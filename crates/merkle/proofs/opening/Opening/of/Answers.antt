@@ -7,8 +7,8 @@ use Rattle.merkle.proofs.Siblings.{sibling_more, siblings_all, sibling_fits, hal
 use Rattle.merkle.proofs.Honest.{opens, updates}
 use Rattle.merkle.proofs.opening.Opening.of.Goals as goal
 
-pub node-digest-requires : goal.node-digest-requires
-node-digest-requires g c =
+pub node_digest-requires : goal.node_digest-requires
+node_digest-requires g c =
     let l = c.loop-level in
     subst (λ x. (x + 1) * 2 ^ l.level ≤ 65536) (sym c.sibling.ensures) (sibling_fits 16 l.level l.index c.loop-level-test.true l.invariant.1)
 
@@ -20,10 +20,10 @@ loop-level-preserved g c =
     let n = l.invariant.2 in
     let within : c.loop-level.level < length c.loop-level.siblings = omega arith in
     let s : suc (16 - (c.loop-level.level + 1)) ≡ 16 - c.loop-level.level = omega arith in
-    let v = c.node-digest.ensures.value ∙ ap (λ x. node h l.level x m) c.sibling.ensures in (
+    let v = c.node_digest.ensures.value ∙ ap (λ x. node h l.level x m) c.sibling.ensures in (
       sibling_more h (16 - l.level) (16 - (l.level + 1)) l.level l.index m _ l.siblings within s v ∙ l.invariant.0,
       half_below 16 l.level l.index c.loop-level-test.true l.invariant.1,
-      length-set l.siblings l.level c.node-digest.result ∙ n,
+      length-set l.siblings l.level c.node_digest.result ∙ n,
     )
 
 pub returns : goal.returns
@@ -33,9 +33,9 @@ returns g c =
     let m = c.args.memory.now in
     let place = c.args.place in
     let low : c.args.place < 65536 = search rules in
-    let w = c.word-at.ensures ∙ ap (λ a. get_or m a 0) c.from.ensures in
+    let w = c.word_at.ensures ∙ ap (λ a. get_or m a 0) c.from.ensures in
     let s = sym (siblings_all h (16 - l.level) l.level l.index m l.siblings (omega arith) (omega (arith, l.invariant.2))) ∙ l.invariant.0 in
-    let whole : ◌≡◌ {A = Opening} (record { word = c.word-at.result; siblings = c.loop-level.siblings }) (honest h place m) = λ j. record { word = w j; siblings = s j } in
+    let whole : ◌≡◌ {A = Opening} (record { word = c.word_at.result; siblings = c.loop-level.siblings }) (honest h place m) = λ j. record { word = w j; siblings = s j } in
     record {
       value = whole;
       opens = ap (opened h place) whole ∙ opens h place m low;

@@ -9,4 +9,4 @@ pub returns : goal.returns
 unfolding run
 returns g c =
     let h = g.D.Digester.hash in
-    (refl, c.in-Some.ensures.0, c.open-referee.ensures h ∙ ap (λ d. opening (bisection (machine h) d)) c.in-ok-start.ensures)
+    (refl, c.in-Some.ensures.0, c.open-referee.ensures h ∙ ap (λ d. opening (bisection (machine h) d)) c.in_ok-start.ensures)
