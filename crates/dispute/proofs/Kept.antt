@@ -1,5 +1,5 @@
 -- The promise of one call, from its equation with the rules.
-use Rattle.std.proofs.Common.{◌≡◌, ◌≤◌, Bool, true, false, cond, List, [], length, IfSome, Some, None, Option, sym, ap, ◌∙◌, subst, arith}
+use Rattle.std.proofs.Common.{◌≡◌, ℕ, ◌≤◌, Bool, true, false, cond, List, [], length, IfSome, Some, None, Option, sym, ap, ◌∙◌, subst, arith}
 use Rattle.std.proofs.lemmas.Bool.{cond_both}
 use Rattle.merkle.specs.Bytes.{Bytes, Hash, Whole}
 use Rattle.merkle.specs.Seen.{seen_all}
@@ -13,11 +13,11 @@ use Rattle.dispute.specs.declared.Refusal.TheVariants.{Unreadable, OutOfTurn}
 use Rattle.dispute.specs.declared.Answer.{Answer}
 use Rattle.dispute.specs.declared.Answer.TheVariants.{Refused}
 use Rattle.dispute.specs.declared.Phase.{Phase}
-use Rattle.dispute.specs.Referee.{Event, sent, may_move, late, settle, take}
+use Rattle.dispute.specs.Referee.{Event, day, sent, may_move, late, settle, take}
 use Rattle.dispute.specs.Bisection.{turn, InReach, decode, move, bisection}
 use Rattle.dispute.specs.Work.{step_in, step_limit, move_strings, strings, limit}
 use Rattle.dispute.specs.Promise.{Keeps}
-use Rattle.dispute.proofs.Limits.{keeps, range_late, range_move}
+use Rattle.dispute.proofs.Limits.{keeps, range_move, reach_next}
 use Rattle.dispute.proofs.Moves.{made, read_small}
 use Rattle.dispute.proofs.Dawns.{sent_unread, sent_early, sent_settled}
 use Rattle.dispute.proofs.Rested.{take_rests}
@@ -65,9 +65,8 @@ module _ (h : Hash) (whole : Whole h) {S : Type 0} (adds : S → Bytes → S) (s
     in_turn now seen few r is c' a comes = received c' a (λ g. comes g ∙ sent_settled (bisection (machine h) g) c w b m read now r is) (rw (read, now) seen) (rw (read, now) few)
 
 -- the range of the steps in dispute, after a day and after a message
-pub range_dawn : (t : Bool) (f f' : Phase) → ((h : Hash) (g : Bytes) → f' ≡ cond t (late (bisection (machine h) g) f) f) → InReach f → InReach f'
-range_dawn t f f' is l =
-    subst InReach (sym (is (λ x. x) [])) (cond_both t (late (bisection (machine (λ x. x)) []) f) f InReach (λ _. range_late (machine (λ x. x)) [] f l) (λ _. l))
+pub range_day : (d : ℕ) (c : Case Phase) (r : Case Phase × Answer) → ((h : Hash) (g : Bytes) → r ≡ take (bisection (machine h) g) c (day d)) → InReach c.phase → InReach r.0.phase
+range_day d c r is l = subst (λ (x : Case Phase × Answer). InReach x.0.phase) (sym (is (λ x. x) [])) (reach_next (machine (λ x. x)) [] c (day d) l)
 
 pub range_sent : (h : Hash) (b : Bytes) (m : Message Witness) (f : Phase) → decode (machine h) b ≡ Some m → (r : Option Phase) → r ≡ move (machine h) f m → InReach f → IfSome r InReach
 range_sent h b m f read None is l = tt

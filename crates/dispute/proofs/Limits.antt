@@ -1,5 +1,6 @@
 -- The halving game ends, takes few messages and stays within the run; and its rules can be kept.
-use Rattle.std.proofs.Common.{◌≡◌, ℕ, zero, suc, ◌+◌, ◌*◌, ◌^◌, ◌≤◌, Bool, true, false, cond, List, [], ◌∷◌, ◌++◌, Some, None, Option, sym, refl, ap, ◌∙◌, subst, arith, pow_mono}
+use Rattle.std.proofs.Common.{◌≡◌, ℕ, zero, suc, ◌+◌, ◌*◌, ◌^◌, ◌≤◌, Bool, true, false, cond, leb, List, [], ◌∷◌, ◌++◌, Some, None, Option, sym, refl, ap, ◌∙◌, subst, arith, pow_mono}
+use Rattle.std.proofs.lemmas.Bool.{leb-true, leb-false}
 use Rattle.merkle.specs.Bytes.{Bytes}
 use Rattle.merkle.specs.Collision.{eq_bytes}
 use Rattle.system.specs.System.{System, Lawful, run, digest_at}
@@ -14,9 +15,9 @@ use Rattle.dispute.specs.declared.Phase.{Phase}
 use Rattle.dispute.specs.declared.Phase.TheVariants.{Claiming, Doubting, Bisecting, Answering, Proving, Over}
 use Rattle.dispute.specs.Referee.{Protocol, Event, sent, may_move, late, opening, receive, take, next, play, count}
 use Rattle.dispute.specs.Bisection.{turn, move, Claims, reach, InReach, disputing, whole, first_half, second_half, MessageOf, decode, encode, Sendable, bisection, game, honest_claimer, honest_doubter}
-use Rattle.dispute.specs.Promise.{AnySystem, Promised, RightOneWins, Keeps, ClaimerCan, DoubterCan, Ends, EndsAll, FewInAll, StaysInRange}
+use Rattle.dispute.specs.Promise.{AnySystem, ClaimerWins, DoubterWins, Promised, RightOneWins, Keeps, ClaimerCan, DoubterCan, Ends, EndsAll, Few, FewInAll, InRange, StaysInRange}
 use Rattle.dispute.proofs.Basics.{some_none, none_some, valid_run}
-use Rattle.dispute.proofs.Plays.{invariant, IsOver, Measure, ends_by, same_self, counts_one, count_step, count_play, count_from, play_last, not_doubter, not_claimer}
+use Rattle.dispute.proofs.Plays.{invariant, invariant_next, IsOver, Measure, ends_by, same_self, counts_one, count_step, count_play, count_from, play_last, not_doubter, not_claimer}
 use Rattle.dispute.proofs.Dawns.{sent_settled}
 use Rattle.dispute.proofs.Safe.{claimer_safe, doubter_safe}
 use Rattle.dispute.proofs.Moves.{Move, claims, doubts, names, agrees, denies, proves, made, Small, read_small, reads}
@@ -107,12 +108,37 @@ module _ (S : System) (g : Bytes) where
       let most = counts_one (sent w b) (take P c (sent w b)).1 in
       omega arith
 
-pub few : (S : System) → FewInAll S
-few S g n es o = let z = count_from (bisection S g) left (measure S g) (Claims S n) 67 (2 * n + 3) (count_claim S g n) o in omega arith
+pub few : (S : System) → Few S
+few S g c start n x es f = let z = count_play (bisection S g) left (measure S g) c es in let l : left c.phase ≡ 2 * n + 2 = rw f in omega arith
+
+pub few_in_all : (S : System) → FewInAll S
+few_in_all S g n es o = let z = count_from (bisection S g) left (measure S g) (Claims S n) 67 (2 * n + 3) (count_claim S g n) o in omega arith
+
+-- a run within 2 ^ 32 steps has an n of at most 32
+small_exponent : (n : ℕ) → 2 ^ n ≤ 4294967296 → n ≤ 32
+small_exponent n l = go (leb n 32) refl
+  where
+    go : (t : Bool) → leb n 32 ≡ t → n ≤ 32
+    go true e = leb-true n 32 e
+    go false e = let big : 33 ≤ n = leb-false n 32 e in let z = pow_mono {i = 33} {j = n} big in absurd (omega arith)
+
+in_range : (f : Phase) → InReach f → InRange f
+in_range (Claiming x) l = tt
+in_range (Doubting y n x) l = small_exponent n l
+in_range (Bisecting n p) l = l
+in_range (Answering n p x) l = l
+in_range (Proving p) l = l
+in_range (Over w) l = tt
+
+module _ (S : System) (g : Bytes) where
+  reach_moves : (b : Bytes) (m : MessageOf S) (f f' : Phase) → decode S b ≡ Some m → move S f m ≡ Some f' → InReach f → InReach f'
+  reach_moves b m f f' e k l = range_move S g (made S f m f' k) (read_small S b m e) l
+
+  pub reach_next : (c : Case Phase) (e : Event) → InReach c.phase → InReach (next (bisection S g) c e).phase
+  reach_next = invariant_next (bisection S g) InReach (range_late S g) reach_moves
 
 pub stays_in_range : (S : System) → StaysInRange S
-stays_in_range S g es =
-    invariant (bisection S g) InReach (range_late S g) (λ b m f f' e k l. range_move S g (made S f m f' k) (read_small S b m e) l) (opening (bisection S g)) es (omega arith)
+stays_in_range S g es = in_range _ (invariant (bisection S g) InReach (range_late S g) (reach_moves S g) (opening (bisection S g)) es (omega arith))
 
 module _ (S : System) (law : Lawful S) where
   pub right_one_wins : RightOneWins S
@@ -124,6 +150,12 @@ module _ (S : System) (law : Lawful S) where
         doubter_safe = doubter_safe S law s v es;
         doubter_wins = λ follows l. not_claimer {over = λ w. Over w} c.phase (ends_all S (S.digest s) es l) (doubter_safe S law s v es follows);
       }
+
+  pub claimer_wins : ClaimerWins S
+  claimer_wins s v n es follows l = (right_one_wins s v es).claimer_wins n follows l
+
+  pub doubter_wins : DoubterWins S
+  doubter_wins s v es follows l = (right_one_wins s v es).doubter_wins follows l
 
   pub keeps : (c : Case Phase) (e : Event) (c' : Case Phase) → ((g : Bytes) → c' ≡ next (bisection S g) c e) → Keeps S c e c'
   keeps c e c' is s v es led =

@@ -72,7 +72,7 @@ module _ (P : Protocol) where
   -- an invariant of the phase, whatever is sent
   module _ (Inv : P.Phase → Type 0) (kept_late : (f : P.Phase) → Inv f → Inv (late P f))
       (kept : (b : Bytes) (m : P.Message) (f f' : P.Phase) → P.decode b ≡ Some m → P.move f m ≡ Some f' → Inv f → Inv f') where
-    invariant_next : (c : CaseOf P) (e : Event) → Inv c.phase → Inv (next P c e).phase
+    pub invariant_next : (c : CaseOf P) (e : Event) → Inv c.phase → Inv (next P c e).phase
     invariant_next c (day d) i = on_day c d (λ r. Inv r.0.phase) i (λ _. cond_both (expires P c) (late P c.phase) c.phase Inv (λ _. kept_late c.phase i) (λ _. i)) i
     invariant_next c (sent w b) i = on_sent c w b (λ r. Inv r.0.phase) (λ _. i) (λ m f e t v. kept b m c.phase f e v i)
 

@@ -2,7 +2,7 @@ use Rattle.std.proofs.Common.{◌+◌, ◌<◌, ◌≤◌, ◌++◌, length, dro
 use Rattle.history.specs.Keeping.{differing}
 use Rattle.history.proofs.Patches.{differing_none, differing_same, differing_more, differing_all}
 use Rattle.history.proofs.differences.Goals as goal
-use Rattle.history.proofs.differences.Goals.{then-before-place+in-ok-push, else-before-place}
+use Rattle.history.proofs.differences.Goals.{then-before-place+in_ok-push, else-before-place}
 
 pub loop-place-init : goal.loop-place-init
 loop-place-init c = differing_none (vec_items c.new-changes.result) c.args.before.now c.args.after.now c.new-changes.ensures.items
@@ -17,7 +17,7 @@ loop-place-preserved c =
     let la : c.loop-place.place < length c.args.after.now = search rules in
     let lb : c.loop-place.place < length c.args.before.now = search rules in
     elim c.if-before-place.branch [
-      | then-before-place+in-ok-push w ↦
+      | then-before-place+in_ok-push w ↦
           ap (λ v. vec_items v ++ rest) w.changes-is ∙ ap (λ xs. xs ++ rest) w.in_ok-push.ensures.items
           ∙ differing_more i b a cs lb la (λ e. omega (arith, w.if-before-place.true)) ∙ c.loop-place.invariant
       | else-before-place w ↦ ap (λ v. vec_items v ++ rest) w.changes-is ∙ differing_same i b a cs lb la (omega (arith, w.if-before-place.false)) ∙ c.loop-place.invariant

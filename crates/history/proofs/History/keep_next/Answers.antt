@@ -15,7 +15,7 @@ invariant_of-self c =
     let kept =
     keeps_next (vec_items h.program) (vec_items h.slices) _ x _ s c.copy_from_slice.new.self c.run_on-next.new.memory (vec_len h.slices) h.kept len c.requires.state
     c.copy_from_slice.ensures.after size c.in_ok-changes.ensures c.run_on-next.ensures c.push.ensures.items in
-    (h.size, (kept, tt))
+    record { size = h.size; kept = kept }
 
 pub returns : goal.returns
 returns c =
