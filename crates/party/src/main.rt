@@ -13,6 +13,7 @@ use parties::{Player, Role, collision};
 use record::{Entry, Line};
 use std::env;
 use std::io::BufReader;
+use std::process::ExitCode;
 use text::progress::Progress;
 use text::{hex, number, program};
 use witness::Party;
@@ -211,10 +212,12 @@ fn play(rt: &HostRuntime) -> Result<(), Failure> {
     Ok(())
 }
 
-fn main(rt: HostRuntime) -> Result<(), Failure> {
-    let done = play(&rt);
-    if let Err(failure) = &done {
-        failure.tell(&rt);
+fn main(rt: HostRuntime) -> ExitCode {
+    match play(&rt) {
+        Ok(()) => ExitCode::SUCCESS,
+        Err(failure) => {
+            failure.tell(&rt);
+            ExitCode::FAILURE
+        }
     }
-    done
 }

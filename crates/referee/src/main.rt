@@ -8,6 +8,7 @@ use dispute::{Answer, Referee};
 use failure::Failure;
 use record::Line;
 use std::io::{BufRead, BufReader, Stdin};
+use std::process::ExitCode;
 use std::{env, io};
 
 // The next byte of the input; none at its end.
@@ -78,10 +79,12 @@ fn hear(rt: &HostRuntime) -> Result<(), Failure> {
     Ok(())
 }
 
-fn main(rt: HostRuntime) -> Result<(), Failure> {
-    let done = hear(&rt);
-    if let Err(failure) = &done {
-        failure.tell(&rt);
+fn main(rt: HostRuntime) -> ExitCode {
+    match hear(&rt) {
+        Ok(()) => ExitCode::SUCCESS,
+        Err(failure) => {
+            failure.tell(&rt);
+            ExitCode::FAILURE
+        }
     }
-    done
 }

@@ -8,6 +8,7 @@ ghost use Rattle.std.specs.Prelude.{◌^◌, ◌≤◌, IfOk};
 use digests::Sha256;
 use failure::Failure;
 use std::env;
+use std::process::ExitCode;
 use text::progress::Progress;
 use text::{files, line, number};
 
@@ -52,10 +53,12 @@ fn print_answer(rt: &HostRuntime) -> Result<(), Failure> {
     }
 }
 
-fn main(rt: HostRuntime) -> Result<(), Failure> {
-    let done = print_answer(&rt);
-    if let Err(failure) = &done {
-        failure.tell(&rt);
+fn main(rt: HostRuntime) -> ExitCode {
+    match print_answer(&rt) {
+        Ok(()) => ExitCode::SUCCESS,
+        Err(failure) => {
+            failure.tell(&rt);
+            ExitCode::FAILURE
+        }
     }
-    done
 }
