@@ -1,8 +1,6 @@
 // Digests to test with: a weak one, and one that counts.
 ghost use Rattle.std.specs.Prelude.{◌≡◌, ℕ, ◌+◌, ◌%◌, ◌^◌};
-ghost use Rattle.checks.specs.Weak.{sum_from, weak};
-ghost use borrow.Author.Rules.{rules};
-ghost use Rattle.merkle.specs.Bytes.{all_bytes};
+ghost use Rattle.checks.specs.Weak.{sum_from, weak, weak_whole};
 
 use merkle::{Digest, Digester};
 
@@ -30,7 +28,7 @@ impl Digester for Weak {
 
     ghost adds = { λ _ _. tt };
 
-    ghost whole = { unfold all_bytes in λ a. Prim.search rules };
+    ghost whole = { weak_whole };
 
     fn digest(&mut self, bytes: &[u8]) -> Digest {
         [sum(bytes); 32]
@@ -53,7 +51,7 @@ impl<D: Digester> Digester for Counted<D> {
 
     ghost adds = { λ n _. (n + 1) % 2 ^ 64 };
 
-    ghost whole = { Prim.search rules };
+    ghost whole = { D.Digester.whole };
 
     fn digest(&mut self, bytes: &[u8]) -> Digest {
         self.count = self.count.wrapping_add(1);

@@ -1,5 +1,5 @@
 -- What a turn makes of a message.
-use Rattle.std.proofs.Common.{◌≡◌, ℕ, ◌+◌, ◌^◌, ◌<◌, ◌≤◌, leb, List, [], length, None, Option, sym, refl, ap, ◌∙◌, inl, inr, arith, pow_mono}
+use Rattle.std.proofs.Common.{◌≡◌, ℕ, ◌+◌, ◌^◌, ◌<◌, ◌≤◌, leb, [], length, None, Option, sym, refl, ap, ◌∙◌, inl, inr, arith, pow_mono}
 use Rattle.std.proofs.lemmas.Bool.{cases_Bool, leb-true, leb-false}
 use Rattle.merkle.specs.Bytes.{Bytes, Hash}
 use Rattle.merkle.specs.Seen.{seen_all}
@@ -10,7 +10,7 @@ use Rattle.dispute.specs.declared.Message.{Message}
 use Rattle.dispute.specs.declared.Message.TheVariants.{Claim, Doubt, Middle, Right, Wrong, Step}
 use Rattle.dispute.specs.declared.Dispute.{Dispute}
 use Rattle.dispute.specs.declared.Phase.{Phase}
-use Rattle.dispute.specs.declared.Phase.TheVariants.{Claiming, Doubting, Bisecting, Answering, Proving, Over}
+use Rattle.dispute.specs.declared.Phase.TheVariants.{Claiming, Doubting, Bisecting, Answering, Proving}
 use Rattle.dispute.specs.Bisection.{MessageOf, move}
 use Rattle.dispute.specs.Work.{step_in, step_limit, move_strings}
 use Rattle.dispute.proofs.Moves.{Move, claims, doubts, names, agrees, denies, proves, stuck}

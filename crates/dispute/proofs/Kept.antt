@@ -1,6 +1,5 @@
 -- The promise of one call, from its equation with the rules.
-use Rattle.std.proofs.Common.{◌≡◌, ℕ, ◌≤◌, Bool, true, false, cond, List, [], length, IfSome, Some, None, Option, sym, ap, ◌∙◌, subst, arith}
-use Rattle.std.proofs.lemmas.Bool.{cond_both}
+use Rattle.std.proofs.Common.{◌≡◌, ℕ, ◌≤◌, true, false, List, [], length, IfSome, Some, None, Option, sym, ap, ◌∙◌, subst, arith}
 use Rattle.merkle.specs.Bytes.{Bytes, Hash, Whole}
 use Rattle.merkle.specs.Seen.{seen_all}
 use Rattle.witness.specs.declared.Party.{Party}
@@ -13,7 +12,7 @@ use Rattle.dispute.specs.declared.Refusal.TheVariants.{Unreadable, OutOfTurn}
 use Rattle.dispute.specs.declared.Answer.{Answer}
 use Rattle.dispute.specs.declared.Answer.TheVariants.{Refused}
 use Rattle.dispute.specs.declared.Phase.{Phase}
-use Rattle.dispute.specs.Referee.{Event, day, sent, may_move, late, settle, take}
+use Rattle.dispute.specs.Referee.{Event, day, sent, may_move, settle, take}
 use Rattle.dispute.specs.Bisection.{turn, InReach, decode, move, bisection}
 use Rattle.dispute.specs.Work.{step_in, step_limit, move_strings, strings, limit}
 use Rattle.dispute.specs.Promise.{Keeps}

@@ -1,5 +1,5 @@
 -- What comes of a line at the referee.
-use Rattle.std.proofs.Common.{◌≡◌, ℕ, [], ◌++◌, IfOk, Some, None, Ok, Err, Option, Result, Vec, sym, ap, ◌∙◌, subst, append-nil, Bor}
+use Rattle.std.proofs.Common.{◌≡◌, ℕ, [], IfOk, Some, None, Ok, Err, Option, Result, Vec, sym, ap, ◌∙◌, subst, append-nil, Bor}
 use Rattle.std.specs.declared.alloc.Global.{Global}
 use Rattle.std.specs.Option.{option_map}
 use Rattle.merkle.specs.Bytes.{Bytes, Hash, Whole}

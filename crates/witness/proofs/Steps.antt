@@ -9,7 +9,7 @@ use Rattle.merkle.specs.declared.opening.Opening.{Opening}
 use Rattle.merkle.proofs.Strings.{eq_true, true_eq, eq_refl, same_or_not, state_bytes, state_injective, digest_bytes}
 use Rattle.merkle.proofs.Bindings.{difference_some, difference_none, last_none, binds}
 use Rattle.merkle.proofs.Honest.{opens, updates, node_digest, siblings_count, siblings_digests}
-use Rattle.machine.specs.Machine.{State, place_of, decode, stores, fetch, operand, step, digest}
+use Rattle.machine.specs.Machine.{State, place_of, decode, stores, fetch, step, digest}
 use Rattle.witness.specs.declared.Witness.{Witness}
 use Rattle.witness.specs.Witness.{Valid, witness, shaped, fits, root_next, next_part, accepts, state_part, operand_place, first_difference, Found}
 

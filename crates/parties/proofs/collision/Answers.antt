@@ -1,4 +1,4 @@
-use Rattle.std.proofs.Common.{◌≡◌, ap, ◌∙◌}
+use Rattle.std.proofs.Common.{ap, ◌∙◌}
 use Rattle.machine.specs.Machine.{run}
 use Rattle.witness.specs.Witness.{witness, first_difference}
 use Rattle.parties.specs.Parties.{own}

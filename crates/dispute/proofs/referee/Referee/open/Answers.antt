@@ -1,4 +1,4 @@
-use Rattle.std.proofs.Common.{sym, subst, [], arith}
+use Rattle.std.proofs.Common.{sym, subst, arith}
 use Rattle.dispute.specs.declared.Case.{Case}
 use Rattle.dispute.specs.declared.Phase.{Phase}
 use Rattle.dispute.specs.Bisection.{InReach}
