@@ -1,18 +1,18 @@
 -- Openings of one place bind: the same, or the search in their ways finds a collision.
-use Rattle.std.proofs.Common.{◌≡◌, ℕ, ◌/◌, ◌%◌, ◌^◌, ◌<◌, Bool, true, false, cond, eqb, ◌⊎◌, List, [], ◌∷◌, length, Some, None, sym, refl, ◌∙◌, inl, inr, arith}
+use Rattle.std.proofs.Common.{◌≡◌, ℕ, ◌/◌, ◌%◌, ◌^◌, ◌<◌, Bool, true, false, cond, eqb, ◌⊎◌, List, [], ◌∷◌, length, Some, None, sym, refl, ◌∙◌, inl, inr, arith, bytes_eq}
 use Rattle.std.proofs.lemmas.Bool.{eqb-true, ltb-true, and_parts, cases_Bool, cond_both}
 use Rattle.merkle.specs.declared.opening.Opening.{Opening}
 use Rattle.merkle.specs.Bytes.{Bytes, Hash, Whole, all_bytes, is_digest, all_digests, word_preimage, pair_preimage}
 use Rattle.merkle.specs.Tree.{parent_preimage, climb, way_preimages}
-use Rattle.merkle.specs.Collision.{eq_bytes, Collision, difference, last_difference, WayCollision}
+use Rattle.merkle.specs.Collision.{Collision, difference, last_difference, WayCollision}
 use Rattle.merkle.specs.Openings.{well_formed, Binds}
 use Rattle.merkle.proofs.Strings.{eq_true, true_eq, same_or_not, word_bytes, pair_bytes, digest_long, digest_bytes, word_injective, pair_injective}
 
 -- ---- the search
 pub difference_some : (x y : Bytes) → (x ≡ y → ⊥) → difference x y ≡ Some (x, y)
-difference_some x y d = go (cases_Bool (eq_bytes x y))
+difference_some x y d = go (cases_Bool (bytes_eq x y))
   where
-    go : (eq_bytes x y ≡ true) ⊎ (eq_bytes x y ≡ false) → difference x y ≡ Some (x, y)
+    go : (bytes_eq x y ≡ true) ⊎ (bytes_eq x y ≡ false) → difference x y ≡ Some (x, y)
     go (inl t) = absurd (d (eq_true x y t))
     go (inr f) = rw f
 

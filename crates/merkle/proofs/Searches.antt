@@ -14,35 +14,34 @@ or_none None = refl
 or_none (Some x) = refl
 
 -- the words come first
-pub search_start : (h : Hash) (i j v w : ℕ) (p q d e : Bytes) (ss ts : List Bytes) (f : Option (Bytes × Bytes)) → p ≡ word_preimage v → q ≡ word_preimage w → d ≡ h p → e ≡ h q →
-    f ≡ or_else (difference p q) None → or_else (last_difference (way_preimages h i d ss) (way_preimages h j e ts)) f ≡ last_difference (opening_preimages h i v ss) (opening_preimages h j w ts)
+pub search_start : (h : Hash) (i j i' j' v w : ℕ) (p q d e : Bytes) (ss ts : List Bytes) (f : Option (Bytes × Bytes)) → i' ≡ i → j' ≡ j → p ≡ word_preimage v → q ≡ word_preimage w →
+    d ≡ h (word_preimage v) → e ≡ h (word_preimage w) → f ≡ or_else (difference p q) None →
+    or_else (last_difference (way_preimages h i' d ss) (way_preimages h j' e ts)) f ≡ last_difference (opening_preimages h i v ss) (opening_preimages h j w ts)
 unfolding last_difference
-search_start h i j v w p q d e ss ts f ip iq id ie it =
-    let a : p ∷ way_preimages h i d ss ≡ opening_preimages h i v ss =
-    ap (λ z. z ∷ way_preimages h i d ss) ip ∙ ap (λ z. word_preimage v ∷ way_preimages h i z ss) (id ∙ ap h ip) in
-    let b : q ∷ way_preimages h j e ts ≡ opening_preimages h j w ts =
-    ap (λ z. z ∷ way_preimages h j e ts) iq ∙ ap (λ z. word_preimage w ∷ way_preimages h j z ts) (ie ∙ ap h iq) in
-    ap (or_else (last_difference (way_preimages h i d ss) (way_preimages h j e ts))) (it ∙ or_none (difference p q))
-    ∙ ap (λ z. last_difference z (q ∷ way_preimages h j e ts)) a ∙ ap (last_difference (opening_preimages h i v ss)) b
+search_start h i j i' j' v w p q d e ss ts f at at' ip iq id ie it =
+    ap (or_else (last_difference (way_preimages h i' d ss) (way_preimages h j' e ts))) (it ∙ or_none (difference p q))
+    ∙ (λ l. last_difference (ip l ∷ way_preimages h (at l) (id l) ss) (iq l ∷ way_preimages h (at' l) (ie l) ts))
 
--- p and q are what is digested for the parents of nodes i and j, of digests d and e; f is what was found below, g here or below
-module _ (h : Hash) (i j : ℕ) (d e p q : Bytes) (ss ts : List Bytes) (k : ℕ) (ws : k < length ss) (wt : k < length ts)
+-- i' and u are index and digest of the parent of node i, of digest d, and p is what is digested for it; so j', v and q of node j; f is what was found below, g here or below
+module _ (h : Hash) (i j i' j' : ℕ) (d e p q u v : Bytes) (ss ts : List Bytes) (k : ℕ) (ws : k < length ss) (wt : k < length ts) (half : i' ≡ i / 2) (half' : j' ≡ j / 2)
+    (iu : u ≡ h (parent_preimage i d (get_or ss k []))) (iv : v ≡ h (parent_preimage j e (get_or ts k [])))
     (ip : p ≡ parent_preimage i d (get_or ss k [])) (iq : q ≡ parent_preimage j e (get_or ts k [])) where
-  pub search_more : (f g : Option (Bytes × Bytes)) (u v : Bytes) → u ≡ h p → v ≡ h q → g ≡ or_else (difference p q) f →
-      or_else (last_difference (way_preimages h (i / 2) u (drop (k + 1) ss)) (way_preimages h (j / 2) v (drop (k + 1) ts))) g ≡
+  -- the way goes on behind the node's own string
+  behind : (xs : List Bytes) (n n' : ℕ) (a b r : Bytes) → n' ≡ n / 2 → k < length xs → b ≡ h (parent_preimage n a (get_or xs k [])) → r ≡ parent_preimage n a (get_or xs k []) →
+      r ∷ way_preimages h n' b (drop (k + 1) xs) ≡ way_preimages h n a (drop k xs)
+  unfolding way_preimages
+  behind xs n n' a b r half w ib ir = (λ l. ir l ∷ way_preimages h (half l) (ib l) (drop (k + 1) xs)) ∙ sym (at_drop_more (way_preimages h n a) xs k [] w)
+
+  pub search_more : (f g : Option (Bytes × Bytes)) (n : ℕ) → n ≡ k + 1 → g ≡ or_else (difference p q) f →
+      or_else (last_difference (way_preimages h i' u (drop n ss)) (way_preimages h j' v (drop n ts))) g ≡
       or_else (last_difference (way_preimages h i d (drop k ss)) (way_preimages h j e (drop k ts))) f
-  unfolding way_preimages last_difference
-  search_more f g u v iu iv ig =
-      let x = way_preimages h (i / 2) u (drop (k + 1) ss) in
-      let y = way_preimages h (j / 2) v (drop (k + 1) ts) in
-      let a : p ∷ x ≡ way_preimages h i d (drop k ss) =
-      ap (λ z. z ∷ way_preimages h (i / 2) u (drop (k + 1) ss)) ip
-      ∙ ap (λ z. parent_preimage i d (get_or ss k []) ∷ way_preimages h (i / 2) z (drop (k + 1) ss)) (iu ∙ ap h ip) ∙ sym (at_drop_more (way_preimages h i d) ss k [] ws) in
-      let b : q ∷ y ≡ way_preimages h j e (drop k ts) =
-      ap (λ z. z ∷ way_preimages h (j / 2) v (drop (k + 1) ts)) iq
-      ∙ ap (λ z. parent_preimage j e (get_or ts k []) ∷ way_preimages h (j / 2) z (drop (k + 1) ts)) (iv ∙ ap h iq) ∙ sym (at_drop_more (way_preimages h j e) ts k [] wt) in
-      ap (or_else (last_difference x y)) ig ∙ sym (or_assoc (last_difference x y) (difference p q) f)
-      ∙ ap (λ z. or_else (last_difference z (q ∷ y)) f) a ∙ ap (λ z. or_else (last_difference (way_preimages h i d (drop k ss)) z) f) b
+  unfolding last_difference
+  search_more f g n next ig =
+      let x = way_preimages h i' u (drop (k + 1) ss) in
+      let y = way_preimages h j' v (drop (k + 1) ts) in
+      let a : p ∷ x ≡ way_preimages h i d (drop k ss) = behind ss i i' d u p half ws iu ip in
+      let b : q ∷ y ≡ way_preimages h j e (drop k ts) = behind ts j j' e v q half' wt iv iq in
+      (λ l. or_else (last_difference (way_preimages h i' u (drop (next l) ss)) (way_preimages h j' v (drop (next l) ts))) (ig l)) ∙ sym (or_assoc (last_difference x y) (difference p q) f) ∙ (λ l. or_else (last_difference (a l) (b l)) f)
 
 pub search_all : (h : Hash) (i j : ℕ) (d e : Bytes) (ss ts : List Bytes) (k : ℕ) (f : Option (Bytes × Bytes)) → length ss ≤ k →
     or_else (last_difference (way_preimages h i d (drop k ss)) (way_preimages h j e (drop k ts))) f ≡ f

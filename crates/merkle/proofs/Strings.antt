@@ -1,46 +1,28 @@
 -- Strings: equality as a test, and what is digested tells what it was made from.
-use Rattle.std.proofs.Common.{◌≡◌, ℕ, ◌/◌, ◌%◌, ◌^◌, ◌<◌, Bool, true, false, eqb, ltb, ◌⊎◌, [], ◌∷◌, ◌++◌, length, Decides, sym, refl, ◌∙◌, inl, inr, arith}
-use Rattle.std.proofs.lemmas.Bool.{eqb-true, eq-eqb, lt-ltb, and_parts, and_from, cases_Bool, both_ways}
+use Rattle.std.proofs.Common.{◌≡◌, ℕ, ◌/◌, ◌%◌, ◌^◌, ◌<◌, true, false, eqb, ltb, ◌⊎◌, [], ◌∷◌, ◌++◌, length, refl, inl, inr, arith, bytes_eq}
+use Rattle.std.proofs.lemmas.Slice.Eq.{bytes_eq-Decides}
+use Rattle.std.proofs.lemmas.Bool.{eqb-true, lt-ltb, and_parts, and_from, cases_Bool, both_ways}
 use Rattle.merkle.specs.Bytes.{Bytes, all_bytes, is_digest, be4, word_preimage, pair_preimage, state_preimage}
-use Rattle.merkle.specs.Collision.{eq_bytes}
 
 -- ---- equality
-pub eq_true : (a b : Bytes) → eq_bytes a b ≡ true → a ≡ b
-unfolding eq_bytes
-eq_true [] [] e = refl
-eq_true [] (y ∷ ys) e = cc
-eq_true (x ∷ xs) [] e = cc
-eq_true (x ∷ xs) (y ∷ ys) e =
-    let p = and_parts (eqb x y) (eq_bytes xs ys) e in
-    let u = eqb-true x y p.0 in
-    let v = eq_true xs ys p.1 in
-    cc
+pub eq_true : (a b : Bytes) → bytes_eq a b ≡ true → a ≡ b
+eq_true a b = (bytes_eq-Decides a b).0
 
-pub eq_refl : (a : Bytes) → eq_bytes a a ≡ true
-unfolding eq_bytes
-eq_refl [] = refl
-eq_refl (x ∷ xs) = and_from (eqb x x) (eq_bytes xs xs) (eq-eqb x x refl) (eq_refl xs)
+pub true_eq : (a b : Bytes) → a ≡ b → bytes_eq a b ≡ true
+true_eq a b = (bytes_eq-Decides a b).1
 
-pub true_eq : (a b : Bytes) → a ≡ b → eq_bytes a b ≡ true
-true_eq a b e = rw e (eq_refl b)
+pub eq_refl : (a : Bytes) → bytes_eq a a ≡ true
+eq_refl a = true_eq a a refl
 
-pub eq_false : (a b : Bytes) → eq_bytes a b ≡ false → a ≡ b → ⊥
-eq_false a b f e = both_ways (eq_bytes a b) f (true_eq a b e)
+pub eq_false : (a b : Bytes) → bytes_eq a b ≡ false → a ≡ b → ⊥
+eq_false a b f e = both_ways (bytes_eq a b) f (true_eq a b e)
 
 pub same_or_not : (a b : Bytes) → (a ≡ b) ⊎ (a ≡ b → ⊥)
-same_or_not a b = go (cases_Bool (eq_bytes a b))
+same_or_not a b = go (cases_Bool (bytes_eq a b))
   where
-    go : (eq_bytes a b ≡ true) ⊎ (eq_bytes a b ≡ false) → (a ≡ b) ⊎ (a ≡ b → ⊥)
+    go : (bytes_eq a b ≡ true) ⊎ (bytes_eq a b ≡ false) → (a ≡ b) ⊎ (a ≡ b → ⊥)
     go (inl t) = inl (eq_true a b t)
     go (inr f) = inr (eq_false a b f)
-
-pub decides_eq : (r : Bool) (a b : Bytes) → Decides r (a ≡ b) → r ≡ eq_bytes a b
-decides_eq true a b d = sym (true_eq a b (d.0 refl))
-decides_eq false a b d = go (cases_Bool (eq_bytes a b))
-  where
-    go : (eq_bytes a b ≡ true) ⊎ (eq_bytes a b ≡ false) → false ≡ eq_bytes a b
-    go (inl t) = d.1 (eq_true a b t) ∙ sym t
-    go (inr f) = sym f
 
 -- ---- bytes
 pub bytes_append : (a b : Bytes) → all_bytes a ≡ true → all_bytes b ≡ true → all_bytes (a ++ b) ≡ true

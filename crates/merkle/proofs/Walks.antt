@@ -5,19 +5,16 @@ use Rattle.merkle.specs.Bytes.{Bytes, Hash, word_preimage}
 use Rattle.merkle.specs.Tree.{parent_preimage, climb, way_preimages, opening_preimages}
 use Rattle.merkle.specs.Seen.{seen_all}
 
--- e is the parent's digest of node j, of digest d
-module _ (h : Hash) (j : ℕ) (d e : Bytes) (ss : List Bytes) (i : ℕ) (within : i < length ss) (is : e ≡ h (parent_preimage j d (get_or ss i []))) where
-  pub climb_more : climb h (j / 2) e (drop (i + 1) ss) ≡ climb h j d (drop i ss)
+-- k and e are index and digest of the parent of node j, of digest d
+module _ (h : Hash) (j k : ℕ) (d e : Bytes) (ss : List Bytes) (i : ℕ) (within : i < length ss) (half : k ≡ j / 2) (is : e ≡ h (parent_preimage j d (get_or ss i []))) where
+  pub climb_more : climb h k e (drop (i + 1) ss) ≡ climb h j d (drop i ss)
   unfolding climb
-  climb_more = ap (λ x. climb h (j / 2) x (drop (i + 1) ss)) is ∙ sym (at_drop_more (climb h j d) ss i [] within)
+  climb_more = (λ l. climb h (half l) (is l) (drop (i + 1) ss)) ∙ sym (at_drop_more (climb h j d) ss i [] within)
 
   pub seen_more : {S : Type 0} (adds : S → Bytes → S) (s t : S) → t ≡ adds s (parent_preimage j d (get_or ss i [])) →
-      seen_all adds t (way_preimages h (j / 2) e (drop (i + 1) ss)) ≡ seen_all adds s (way_preimages h j d (drop i ss))
+      seen_all adds t (way_preimages h k e (drop (i + 1) ss)) ≡ seen_all adds s (way_preimages h j d (drop i ss))
   unfolding seen_all way_preimages
-  seen_more adds s t it =
-      ap (λ x. seen_all adds x (way_preimages h (j / 2) e (drop (i + 1) ss))) it
-      ∙ ap (λ x. seen_all adds (adds s (parent_preimage j d (get_or ss i []))) (way_preimages h (j / 2) x (drop (i + 1) ss))) is
-      ∙ sym (at_drop_more (λ xs. seen_all adds s (way_preimages h j d xs)) ss i [] within)
+  seen_more adds s t it = (λ l. seen_all adds (it l) (way_preimages h (half l) (is l) (drop (i + 1) ss))) ∙ sym (at_drop_more (λ xs. seen_all adds s (way_preimages h j d xs)) ss i [] within)
 
 module _ (h : Hash) (j : ℕ) (d : Bytes) (ss : List Bytes) (i : ℕ) (past : length ss ≤ i) where
   pub climb_all : climb h j d (drop i ss) ≡ d
@@ -29,11 +26,10 @@ module _ (h : Hash) (j : ℕ) (d : Bytes) (ss : List Bytes) (i : ℕ) (past : le
   seen_all_lem adds s = at_drop_all (λ xs. seen_all adds s (way_preimages h j d xs)) ss i past
 
 -- the word comes first
-pub seen_word : {S : Type 0} (adds : S → Bytes → S) (h : Hash) (i w : ℕ) (d : Bytes) (ss : List Bytes) (s t : S) → d ≡ h (word_preimage w) → t ≡ adds s (word_preimage w) →
-    seen_all adds t (way_preimages h i d ss) ≡ seen_all adds s (opening_preimages h i w ss)
+pub seen_word : {S : Type 0} (adds : S → Bytes → S) (h : Hash) (i j w : ℕ) (d : Bytes) (ss : List Bytes) (s t : S) → j ≡ i → d ≡ h (word_preimage w) → t ≡ adds s (word_preimage w) →
+    seen_all adds t (way_preimages h j d ss) ≡ seen_all adds s (opening_preimages h i w ss)
 unfolding seen_all
-seen_word adds h i w d ss s t is it =
-    ap (λ x. seen_all adds x (way_preimages h i d ss)) it ∙ ap (λ x. seen_all adds (adds s (word_preimage w)) (way_preimages h i x ss)) is
+seen_word adds h i j w d ss s t at is it = λ l. seen_all adds (it l) (way_preimages h (at l) (is l) ss)
 
 pub way_count : (h : Hash) (j : ℕ) (d : Bytes) (ss : List Bytes) → length (way_preimages h j d ss) ≡ length ss
 unfolding way_preimages

@@ -1,13 +1,6 @@
 -- Two different strings with one digest, and the search for them in two ways up a tree.
-use Rattle.std.specs.Prelude.{◌≡◌, Bool, true, false, cond, ◌&&◌, List, [], ◌∷◌, Some, None, Option, ◌==◌}
+use Rattle.std.specs.Prelude.{◌≡◌, true, cond, List, [], ◌∷◌, Some, None, Option, bytes_eq}
 use Rattle.merkle.specs.Bytes.{Bytes, Hash, all_bytes}
-
--- Equality of strings, as a test.
-unfoldable pub eq_bytes : Bytes → Bytes → Bool
-eq_bytes [] [] = true
-eq_bytes [] (y ∷ ys) = false
-eq_bytes (x ∷ xs) [] = false
-eq_bytes (x ∷ xs) (y ∷ ys) = x == y && eq_bytes xs ys
 
 -- A collision: two different byte strings with one digest.
 pub record Collision (h : Hash) (one other : Bytes) : Type 0 where
@@ -18,7 +11,7 @@ pub record Collision (h : Hash) (one other : Bytes) : Type 0 where
 
 -- Two strings, where they differ.
 abbrev pub difference : Bytes → Bytes → Option (Bytes × Bytes)
-difference x y = cond (eq_bytes x y) None (Some (x, y))
+difference x y = cond (bytes_eq x y) None (Some (x, y))
 
 -- The first pair, if there is one, else the second.
 abbrev pub or_else : {X : Type 0} → Option X → Option X → Option X

@@ -9,7 +9,7 @@ mod preimage;
 pub mod shape;
 mod tree;
 
-pub use opening::{Opening, same};
+pub use opening::Opening;
 pub use preimage::{Preimage, state_digest, state_preimage};
 pub use tree::memory_digest;
 

@@ -1,12 +1,13 @@
 // Openings of single words.
-ghost use Rattle.std.specs.Prelude.{◌≡◌, ℕ, ◌+◌, ◌<◌, true, ◌⊎◌, length, if◌then◌else◌, Some, None, slice_set};
-ghost use Rattle.merkle.specs.Tree.{root, root_from, opening_preimages, sibling as sibling_of};
+ghost use Rattle.std.specs.Prelude.{◌≡◌, ℕ, ◌+◌, ◌/◌, ◌<◌, true, ◌⊎◌, length, if◌then◌else◌, Some, None, slice_set, bytes_eq};
+ghost use Rattle.merkle.specs.Bytes.{word_preimage};
+ghost use Rattle.merkle.specs.Tree.{root, root_from, parent_preimage, opening_preimages, sibling as sibling_of};
 ghost use Rattle.merkle.specs.Seen.{seen_all};
 ghost use Rattle.merkle.specs.Strings.{bytes_of, two_bytes};
-ghost use Rattle.merkle.specs.Collision.{eq_bytes, difference as differing, or_else, last_difference, WayCollision};
+ghost use Rattle.merkle.specs.Collision.{difference as differing, or_else, last_difference, WayCollision};
 ghost use Rattle.merkle.specs.Openings.{opened, preimages, well_formed, honest};
 
-use crate::preimage::{parent_preimage, word_digest, word_preimage};
+use crate::preimage::{parent_preimage, word_preimage};
 use crate::tree::{node_digest, word_at};
 use crate::{Digest, Digester, Preimage, shape};
 
@@ -17,13 +18,6 @@ pub struct Opening {
     pub siblings: [Digest; 16],
 }
 
-// Whether two strings are the same.
-pub fn same(a: &[u8], b: &[u8]) -> bool
-    ensures { result ≡ eq_bytes a.now b.now }
-{
-    *a == *b
-}
-
 // Two strings where they differ, else what was found before.
 fn differ(
     one: Preimage,
@@ -32,7 +26,7 @@ fn differ(
 ) -> Option<(Preimage, Preimage)>
     ensures { two_bytes result ≡ or_else (differing (bytes_of one) (bytes_of other)) (two_bytes before) }
 {
-    if same(one.as_bytes(), other.as_bytes()) {
+    if one.as_bytes() == other.as_bytes() {
         before
     } else {
         Some((one, other))
@@ -47,6 +41,41 @@ fn sibling(index: u16) -> usize
     if index % 2 == 0 { index + 1 } else { index - 1 }
 }
 
+// A node on the way up a tree: its index on its level, and its digest.
+#[derive(Clone, Copy)]
+struct Climber {
+    index: u32,
+    digest: Digest,
+}
+
+impl Climber {
+    // At a word, and what is digested for it.
+    fn at<D: Digester>(digester: &mut D, place: u32, word: u32) -> (Climber, Preimage)
+        ensures index { result.0.index ≡ place }
+        ensures value { result.0.digest ≡ D.hash (word_preimage word) }
+        ensures string { bytes_of result.1 ≡ word_preimage word }
+        ensures seen { D.seen digester.new ≡ D.adds (D.seen digester.old) (word_preimage word) }
+    {
+        let string = word_preimage(word);
+        let digest = digester.digest(&string);
+        let index = place;
+        (Climber { index, digest }, Preimage::Word(string))
+    }
+
+    // A level up, beside this sibling, and what is digested there.
+    fn up<D: Digester>(&mut self, digester: &mut D, sibling: &Digest) -> Preimage
+        ensures index { self.new.index ≡ self.old.index / 2 }
+        ensures value { self.new.digest ≡ D.hash (parent_preimage self.old.index self.old.digest sibling.now) }
+        ensures string { bytes_of result ≡ parent_preimage self.old.index self.old.digest sibling.now }
+        ensures seen { D.seen digester.new ≡ D.adds (D.seen digester.old) (parent_preimage self.old.index self.old.digest sibling.now) }
+    {
+        let string = parent_preimage(self.index, &self.digest, sibling);
+        self.digest = digester.digest(&string);
+        self.index /= 2;
+        Preimage::Pair(string)
+    }
+}
+
 impl Opening {
     // The memory's digest that the opening gives at a place.
     pub fn climb<D: Digester>(&self, digester: &mut D, place: u16) -> Digest
@@ -54,14 +83,11 @@ impl Opening {
         ensures seen { D.seen digester.new ≡ seen_all D.adds (D.seen digester.old) (opening_preimages D.hash place self.now.word self.now.siblings) }
         ensures count { length (opening_preimages D.hash place self.now.word self.now.siblings) ≡ 17 }
     {
-        let mut index = u32::from(place);
-        let mut digest = word_digest(digester, self.word);
-        for height in 0..16 {
-            let parent = digester.digest(&parent_preimage(index, &digest, &self.siblings[height]));
-            digest = parent;
-            index /= 2;
+        let (mut climber, _) = Climber::at(digester, u32::from(place), self.word);
+        for sibling in &self.siblings {
+            climber.up(digester, sibling);
         }
-        digest
+        climber.digest
     }
 
     // The honest opening of a place. It gives the root, and with another word the root of the memory with that word.
@@ -72,8 +98,8 @@ impl Opening {
     {
         let mut siblings = [[0; 32]; 16];
         let mut index = place;
-        for level in 0..16 {
-            siblings[level] = node_digest(digester, memory, level as u32, sibling(index));
+        for (level, beside) in siblings.iter_mut().enumerate() {
+            *beside = node_digest(digester, memory, level as u32, sibling(index));
             index /= 2;
         }
         Opening {
@@ -89,15 +115,11 @@ impl Opening {
         place: u16,
         memory: &Digest,
     ) -> Option<u32>
-        ensures value { result ≡ (if eq_bytes (opened D.hash place self.now) memory.now then Some self.now.word else None) }
+        ensures value { result ≡ (if bytes_eq (opened D.hash place self.now) memory.now then Some self.now.word else None) }
         ensures seen { D.seen digester.new ≡ seen_all D.adds (D.seen digester.old) (preimages D.hash place self.now) }
     {
         let root = self.climb(digester, place);
-        if same(&root, memory) {
-            Some(self.word)
-        } else {
-            None
-        }
+        (root == *memory).then_some(self.word)
     }
 
     // A word of 32 bits and sixteen digests, as the type says.
@@ -122,24 +144,14 @@ impl Opening {
     {
         one.shape();
         other.shape();
-        let mut index = place;
-        let mut other_index = other_place;
-        let word = word_preimage(one.word);
-        let other_word = word_preimage(other.word);
-        let mut digest = digester.digest(&word);
-        let mut other_digest = digester.digest(&other_word);
-        let mut found = differ(Preimage::Word(word), Preimage::Word(other_word), None);
-        for level in 0..16 {
-            let pair = parent_preimage(index, &digest, &one.siblings[level]);
-            let other_pair = parent_preimage(other_index, &other_digest, &other.siblings[level]);
-            let parent = digester.digest(&pair);
-            let other_parent = digester.digest(&other_pair);
-            let higher = differ(Preimage::Pair(pair), Preimage::Pair(other_pair), found);
-            digest = parent;
-            other_digest = other_parent;
+        let (mut way, word) = Climber::at(digester, place, one.word);
+        let (mut other_way, other_word) = Climber::at(digester, other_place, other.word);
+        let mut found = differ(word, other_word, None);
+        for (sibling, other_sibling) in one.siblings.iter().zip(&other.siblings) {
+            let pair = way.up(digester, sibling);
+            let other_pair = other_way.up(digester, other_sibling);
+            let higher = differ(pair, other_pair, found);
             found = higher;
-            index /= 2;
-            other_index /= 2;
         }
         found
     }

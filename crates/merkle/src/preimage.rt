@@ -33,20 +33,12 @@ impl Preimage {
     }
 }
 
-// Writes `part` into `bytes` from `at` on.
-fn put(bytes: &mut [u8], at: usize, part: &[u8])
-    requires { at + length part.now ≤ length bytes.old }
-    ensures { take (at + length part.now) bytes.new ≡ take at bytes.old ++ part.now }
-{
-    bytes[at..at + part.len()].copy_from_slice(part);
-}
-
 pub(crate) fn word_preimage(word: u32) -> [u8; 5]
     ensures { result ≡ word_preimage word }
 {
     let mut bytes = [0; 5];
-    put(&mut bytes, 0, WORD);
-    put(&mut bytes, 1, &word.to_be_bytes());
+    bytes[0..1].copy_from_slice(WORD);
+    bytes[1..5].copy_from_slice(&word.to_be_bytes());
     bytes
 }
 
@@ -54,9 +46,9 @@ pub(crate) fn pair_preimage(left: &Digest, right: &Digest) -> [u8; 65]
     ensures { result ≡ pair_preimage left.now right.now }
 {
     let mut bytes = [0; 65];
-    put(&mut bytes, 0, PAIR);
-    put(&mut bytes, 1, left);
-    put(&mut bytes, 33, right);
+    bytes[0..1].copy_from_slice(PAIR);
+    bytes[1..33].copy_from_slice(left);
+    bytes[33..65].copy_from_slice(right);
     bytes
 }
 
@@ -75,10 +67,10 @@ pub fn state_preimage(place: u32, register: u32, memory: &Digest) -> [u8; 41]
     ensures { result ≡ state_preimage place register memory.now }
 {
     let mut bytes = [0; 41];
-    put(&mut bytes, 0, STATE);
-    put(&mut bytes, 1, &place.to_be_bytes());
-    put(&mut bytes, 5, &register.to_be_bytes());
-    put(&mut bytes, 9, memory);
+    bytes[0..1].copy_from_slice(STATE);
+    bytes[1..5].copy_from_slice(&place.to_be_bytes());
+    bytes[5..9].copy_from_slice(&register.to_be_bytes());
+    bytes[9..41].copy_from_slice(memory);
     bytes
 }
 

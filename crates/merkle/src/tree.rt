@@ -10,10 +10,7 @@ use crate::{Digest, Digester};
 pub(crate) fn word_at(memory: &[u32], index: usize) -> u32
     ensures { result ≡ slice_index memory.now index }
 {
-    match memory.get(index) {
-        Some(word) => *word,
-        None => 0,
-    }
+    memory.get(index).copied().unwrap_or(0)
 }
 
 // The digest of node `index` of a level.

@@ -1,10 +1,9 @@
 -- The check of a witness, test by test.
-use Rattle.std.proofs.Common.{◌≡◌, ℕ, Bool, true, false, cond, ◌&&◌, ltb, List, [], ◌∷◌, ◌++◌, Some, None, Option, sym, refl, ap, ◌∙◌, arith}
+use Rattle.std.proofs.Common.{◌≡◌, ℕ, Bool, true, false, cond, ◌&&◌, ltb, List, [], ◌∷◌, ◌++◌, Some, None, Option, sym, refl, ap, ◌∙◌, arith, bytes_eq}
 use Rattle.std.proofs.lemmas.List.{append-nil, append_assoc}
 use Rattle.std.proofs.lemmas.Bool.{cond-true, cond-false, and_from, and_parts}
 use Rattle.merkle.specs.Bytes.{Bytes, Hash, state_preimage}
 use Rattle.merkle.specs.Seen.{seen_all}
-use Rattle.merkle.specs.Collision.{eq_bytes}
 use Rattle.merkle.specs.Openings.{opened, preimages}
 use Rattle.merkle.proofs.Seen.{seen_append, seen_last}
 use Rattle.machine.specs.declared.Cpu.{Cpu}
@@ -55,13 +54,13 @@ module _ (h : Hash) (g : Bytes) (o : Witness) (r : Option ℕ) (place : r ≡ co
     digest_is : d ≡ h (state_part o)
     digest_is = is ∙ ap (λ x. h (state_preimage x o.register o.memory)) at
 
-    pub low_taken : eq_bytes d g ≡ true → Some (record { place = p; register = o.register }) ≡ cond (low o && state_fits h g o) (Some (cpu_of o)) None
+    pub low_taken : bytes_eq d g ≡ true → Some (record { place = p; register = o.register }) ≡ cond (low o && state_fits h g o) (Some (cpu_of o)) None
     low_taken e =
-        let t = and_from (low o) (state_fits h g o) below (ap (λ x. eq_bytes x g) (sym digest_is) ∙ e) in
+        let t = and_from (low o) (state_fits h g o) below (ap (λ x. bytes_eq x g) (sym digest_is) ∙ e) in
         ap (λ x. Some (record { place = x; register = o.register })) at ∙ sym (cond-true _ (Some (cpu_of o)) None t)
 
-    pub low_refused : eq_bytes d g ≡ false → None ≡ cond (low o && state_fits h g o) (Some (cpu_of o)) None
-    low_refused e = let f : state_fits h g o ≡ false = ap (λ x. eq_bytes x g) (sym digest_is) ∙ e in rw (below, f)
+    pub low_refused : bytes_eq d g ≡ false → None ≡ cond (low o && state_fits h g o) (Some (cpu_of o)) None
+    low_refused e = let f : state_fits h g o ≡ false = ap (λ x. bytes_eq x g) (sym digest_is) ∙ e in rw (below, f)
 
     pub low_seen : {S : Type 0} (adds : S → Bytes → S) (s t : S) → t ≡ adds s (state_preimage p o.register o.memory) → t ≡ seen_all adds s (cond (low o) (state_part o ∷ []) [])
     unfolding seen_all
@@ -125,7 +124,7 @@ module _ {S : Type 0} (adds : S → Bytes → S) (h : Hash) (g : Bytes) (o : Wit
       go true false p q f = (rw (shape, p, q), seen₁ ∙ ap (seen_all adds s₀) (rw (p, q)))
       go false b p q f = (rw (shape, p), seen₁ ∙ ap (seen_all adds s₀) (rw p))
 
-  module _ (c : Cpu) (some₁ : r₁ ≡ Some c) (s₂ : S) (r₂ : Option ℕ) (instruction : r₂ ≡ cond (eq_bytes (opened h c.place o.instruction) o.memory) (Some o.instruction.word) None)
+  module _ (c : Cpu) (some₁ : r₁ ≡ Some c) (s₂ : S) (r₂ : Option ℕ) (instruction : r₂ ≡ cond (bytes_eq (opened h c.place o.instruction) o.memory) (Some o.instruction.word) None)
       (seen₂ : s₂ ≡ seen_all adds s₁ (preimages h c.place o.instruction)) where
     opened_state : ((low o && state_fits h g o) ≡ true) × (c ≡ cpu_of o)
     opened_state = present (low o && state_fits h g o) (cpu_of o) c r₁ state some₁
@@ -139,8 +138,8 @@ module _ {S : Type 0} (adds : S → Bytes → S) (h : Hash) (g : Bytes) (o : Wit
     is_state : state_fits h g o ≡ true
     is_state = (and_parts (low o) (state_fits h g o) opened_state.0).1
 
-    instruction_at : eq_bytes (opened h c.place o.instruction) o.memory ≡ instruction_fits h o
-    instruction_at = ap (λ (x : Cpu). eq_bytes (opened h x.place o.instruction) o.memory) cpu_is
+    instruction_at : bytes_eq (opened h c.place o.instruction) o.memory ≡ instruction_fits h o
+    instruction_at = ap (λ (x : Cpu). bytes_eq (opened h x.place o.instruction) o.memory) cpu_is
 
     both_seen : s₂ ≡ seen_all adds s₀ (first ++ instruction_part h o)
     both_seen = seen_then adds s₀ s₁ s₂ first (instruction_part h o) seen₁ (seen₂ ∙ ap (λ (x : Cpu). seen_all adds s₁ (preimages h x.place o.instruction)) cpu_is)
@@ -151,7 +150,7 @@ module _ {S : Type 0} (adds : S → Bytes → S) (h : Hash) (g : Bytes) (o : Wit
         let f : instruction_fits h o ≡ false = sym instruction_at ∙ absent _ o.instruction.word r₂ instruction gone in
         (rw (shape, is_low, is_state, f), both_seen ∙ ap (seen_all adds s₀) (rw (is_low, is_state, f) (ap (λ x. state_part o ∷ x) (sym (append-nil (instruction_part h o))))))
 
-    module _ (w : ℕ) (some₂ : r₂ ≡ Some w) (a : ℕ) (at : a ≡ place_of w) (s₃ : S) (r₃ : Option ℕ) (operand : r₃ ≡ cond (eq_bytes (opened h a o.operand) o.memory) (Some o.operand.word) None)
+    module _ (w : ℕ) (some₂ : r₂ ≡ Some w) (a : ℕ) (at : a ≡ place_of w) (s₃ : S) (r₃ : Option ℕ) (operand : r₃ ≡ cond (bytes_eq (opened h a o.operand) o.memory) (Some o.operand.word) None)
         (seen₃ : s₃ ≡ seen_all adds s₂ (preimages h a o.operand)) where
       word_is : w ≡ o.instruction.word
       word_is = (present _ o.instruction.word w r₂ instruction some₂).1
@@ -162,8 +161,8 @@ module _ {S : Type 0} (adds : S → Bytes → S) (h : Hash) (g : Bytes) (o : Wit
       place_is : a ≡ operand_place o
       place_is = at ∙ ap (λ x. place_of x) word_is
 
-      operand_at : eq_bytes (opened h a o.operand) o.memory ≡ operand_fits h o
-      operand_at = ap (λ x. eq_bytes (opened h x o.operand) o.memory) place_is
+      operand_at : bytes_eq (opened h a o.operand) o.memory ≡ operand_fits h o
+      operand_at = ap (λ x. bytes_eq (opened h x o.operand) o.memory) place_is
 
       three_seen : s₃ ≡ seen_all adds s₀ ((first ++ instruction_part h o) ++ operand_part h o)
       three_seen = seen_then adds s₀ s₂ s₃ (first ++ instruction_part h o) (operand_part h o) both_seen (seen₃ ∙ ap (λ x. seen_all adds s₂ (preimages h x o.operand)) place_is)
@@ -188,8 +187,8 @@ module _ {S : Type 0} (adds : S → Bytes → S) (h : Hash) (g : Bytes) (o : Wit
             seen_then adds s₀ s₃ s₄ ((first ++ instruction_part h o) ++ operand_part h o) (store_part h o ++ (next_part h o ∷ [])) three_seen seen₄
             ∙ ap (seen_all adds s₀) (rw (is_low, is_state, is_instruction, is_operand, append_assoc))
 
-        pub ends_with : (b : Bool) → eq_bytes n e ≡ b → cond b Claimer Doubter ≡ verdict h g o e
-        ends_with b test = let t : eq_bytes (h (next_part h o)) e ≡ b = ap (λ x. eq_bytes x e) (sym next) ∙ test in rw (fitted, t)
+        pub ends_with : (b : Bool) → bytes_eq n e ≡ b → cond b Claimer Doubter ≡ verdict h g o e
+        ends_with b test = let t : bytes_eq (h (next_part h o)) e ≡ b = ap (λ x. bytes_eq x e) (sym next) ∙ test in rw (fitted, t)
 
 pub claimer_wins : (b : Bool) → cond b Claimer Doubter ≡ Claimer → b ≡ true
 claimer_wins true e = refl

@@ -1,7 +1,7 @@
 -- The search in two witnesses, part by part.
-use Rattle.std.proofs.Common.{◌≡◌, ℕ, true, false, is_some, Some, None, Option, sym, refl, ap, ◌∙◌, subst, arith}
+use Rattle.std.proofs.Common.{◌≡◌, ℕ, true, false, is_some, Some, None, Option, sym, refl, ap, ◌∙◌, subst, arith, bytes_eq}
 use Rattle.merkle.specs.Bytes.{Bytes, Hash}
-use Rattle.merkle.specs.Collision.{eq_bytes, Collision, or_else, last_difference}
+use Rattle.merkle.specs.Collision.{Collision, or_else, last_difference}
 use Rattle.merkle.specs.Openings.{preimages}
 use Rattle.merkle.specs.Strings.{bytes_of, two_bytes}
 use Rattle.merkle.specs.declared.preimage.Preimage.{Preimage}
@@ -24,21 +24,21 @@ found_collides h o own (Some x) is s e f =
 
 -- p and q are what is digested for the states
 module _ (h : Hash) (o own : Witness) (p q : Bytes) (ip : p ≡ state_part o) (iq : q ≡ state_part own) where
-  test_is : eq_bytes p q ≡ eq_bytes (state_part o) (state_part own)
-  test_is = ap (λ x. eq_bytes x q) ip ∙ ap (eq_bytes (state_part o)) iq
+  test_is : bytes_eq p q ≡ bytes_eq (state_part o) (state_part own)
+  test_is = ap (λ x. bytes_eq x q) ip ∙ ap (bytes_eq (state_part o)) iq
 
-  pub states_differ : eq_bytes p q ≡ false → Some (p, q) ≡ first_difference h o own
+  pub states_differ : bytes_eq p q ≡ false → Some (p, q) ≡ first_difference h o own
   unfolding first_difference
   states_differ f =
-      let t : eq_bytes (state_part o) (state_part own) ≡ false = sym test_is ∙ f in
+      let t : bytes_eq (state_part o) (state_part own) ≡ false = sym test_is ∙ f in
       ap (λ x. Some (x, q)) ip ∙ ap (λ x. Some (state_part o, x)) iq ∙ rw t
 
   -- r is what the search in the instructions' ways returned
-  module _ (same : eq_bytes p q ≡ true) (r : Option (Preimage × Preimage)) (is : two_bytes r ≡ last_difference (instruction_part h o) (instruction_part h own)) where
+  module _ (same : bytes_eq p q ≡ true) (r : Option (Preimage × Preimage)) (is : two_bytes r ≡ last_difference (instruction_part h o) (instruction_part h own)) where
     after_states : first_difference h o own ≡ or_else (two_bytes r) (last_difference (operand_part h o) (operand_part h own))
     unfolding first_difference
     after_states =
-        let t : eq_bytes (state_part o) (state_part own) ≡ true = sym test_is ∙ same in
+        let t : bytes_eq (state_part o) (state_part own) ≡ true = sym test_is ∙ same in
         rw t (ap (λ x. or_else x (last_difference (operand_part h o) (operand_part h own))) (sym is))
 
     pub ways_differ : is_some r ≡ true → two_bytes r ≡ first_difference h o own

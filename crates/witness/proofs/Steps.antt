@@ -1,9 +1,9 @@
 -- The honest witness is accepted, and what is accepted is the step, or the search finds a collision.
-use Rattle.std.proofs.Common.{◌≡◌, ℕ, ◌^◌, ◌<◌, Bool, true, ◌&&◌, ◌⊎◌, List, get_or, sym, refl, ap, ◌∙◌, subst, inl, inr, arith}
+use Rattle.std.proofs.Common.{◌≡◌, ℕ, ◌^◌, ◌<◌, Bool, true, ◌&&◌, ◌⊎◌, List, get_or, sym, refl, ap, ◌∙◌, subst, inl, inr, arith, bytes_eq}
 use Rattle.std.proofs.lemmas.Bool.{eq-eqb, ltb-true, lt-ltb, and_parts, and_from, cases_Bool}
 use Rattle.merkle.specs.Bytes.{Bytes, Hash, Whole, is_digest}
 use Rattle.merkle.specs.Tree.{root}
-use Rattle.merkle.specs.Collision.{eq_bytes, WayCollision}
+use Rattle.merkle.specs.Collision.{WayCollision}
 use Rattle.merkle.specs.Openings.{opened, preimages, well_formed, honest}
 use Rattle.merkle.specs.declared.opening.Opening.{Opening}
 use Rattle.merkle.proofs.Strings.{eq_true, true_eq, eq_refl, same_or_not, state_bytes, state_injective, digest_bytes}
@@ -150,6 +150,6 @@ module _ (h : Hash) (whole : Whole h) (s : State) (v : Valid s) (o : Witness) (f
 
 pub sound : (h : Hash) → Whole h → (s : State) → Valid s → (o : Witness) (d : Bytes) → accepts h (digest h s) o d ≡ true → (d ≡ digest h (step s)) ⊎ Found h s o
 sound h whole s v o d e =
-    let p = and_parts (fits h (digest h s) o) (eq_bytes (h (next_part h o)) d) e in
+    let p = and_parts (fits h (digest h s) o) (bytes_eq (h (next_part h o)) d) e in
     elim (own_or_found h whole s v o (fitting h (digest h s) o p.0))
     [ inl q ↦ inl (sym (eq_true (h (next_part h o)) d p.1) ∙ ap (λ (w : Witness). h (next_part h w)) q ∙ digest_next h whole s v) | inr c ↦ inr c ]

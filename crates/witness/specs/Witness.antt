@@ -1,8 +1,8 @@
 -- One step of the machine, checked from what is shown of it: place, register, the memory's digest, and openings of the instruction and of the word at its place.
-use Rattle.std.specs.Prelude.{◌≡◌, ℕ, ◌^◌, ◌<◌, Bool, cond, ◌&&◌, List, [], ◌∷◌, ◌++◌, length, Some, None, Option, nat_lt, slice_index}
+use Rattle.std.specs.Prelude.{◌≡◌, ℕ, ◌^◌, ◌<◌, Bool, cond, ◌&&◌, List, [], ◌∷◌, ◌++◌, length, Some, None, Option, nat_lt, slice_index, bytes_eq}
 use Rattle.merkle.specs.Bytes.{Bytes, Hash, is_digest, state_preimage}
 use Rattle.merkle.specs.Tree.{root}
-use Rattle.merkle.specs.Collision.{eq_bytes, Collision, difference, or_else, last_difference}
+use Rattle.merkle.specs.Collision.{Collision, difference, or_else, last_difference}
 use Rattle.merkle.specs.Openings.{opened, preimages, well_formed, honest}
 use Rattle.merkle.specs.Strings.{bytes_of}
 use Rattle.merkle.specs.declared.opening.Opening.{Opening}
@@ -51,13 +51,13 @@ operand_part h o = preimages h (operand_place o) o.operand
 
 -- The three tests: the state's digest, and the memory's digest from each opening.
 abbrev pub state_fits : Hash → (start : Bytes) → Witness → Bool
-state_fits h g o = eq_bytes (h (state_part o)) g
+state_fits h g o = bytes_eq (h (state_part o)) g
 
 abbrev pub instruction_fits : Hash → Witness → Bool
-instruction_fits h o = eq_bytes (opened h o.place o.instruction) o.memory
+instruction_fits h o = bytes_eq (opened h o.place o.instruction) o.memory
 
 abbrev pub operand_fits : Hash → Witness → Bool
-operand_fits h o = eq_bytes (opened h (operand_place o) o.operand) o.memory
+operand_fits h o = bytes_eq (opened h (operand_place o) o.operand) o.memory
 
 -- The state after the step: place and register by the machine's table, and for a store the memory's digest from the second opening with the register in place of the word.
 abbrev pub cpu_next : Witness → Cpu
@@ -82,7 +82,7 @@ fits h g o = shaped o && nat_lt o.place 65536 && state_fits h g o && instruction
 
 -- And whether it leads to the digest at the end.
 abbrev pub accepts : Hash → (start : Bytes) → Witness → (end : Bytes) → Bool
-accepts h g o d = fits h g o && eq_bytes (h (next_part h o)) d
+accepts h g o d = fits h g o && bytes_eq (h (next_part h o)) d
 
 -- Who wins by it.
 abbrev pub verdict : Hash → (start : Bytes) → Witness → (end : Bytes) → Party

@@ -1,11 +1,11 @@
-use Rattle.std.proofs.Common.{[], ◌∷◌, refl, rules}
+use Rattle.std.proofs.Common.{[], ◌∷◌, replicate, refl, rules}
 use Rattle.merkle.specs.Bytes.{pair_preimage}
-use Rattle.merkle.proofs.Parts.{part_more, parts_all}
+use Rattle.merkle.proofs.Parts.{none_written, part_more, all_written}
 use Rattle.merkle.proofs.preimage.pair_preimage.Goals as goal
 
 pub returns : goal.returns
 unfolding pair_preimage
 returns c =
-    let l = c.args.left.now in
-    let first = part_more _ _ l l (1 ∷ []) 1 33 c.put-2.ensures c.put.ensures refl (search rules) in
-    parts_all _ _ 65 (search rules) (part_more _ _ _ c.args.right.now (1 ∷ l) 33 65 c.put-3.ensures first refl (search rules))
+    let kind = part_more 1 _ (1 ∷ []) (none_written (replicate 65 0)) c.copy_from_slice.ensures.after refl (search rules) in
+    let left = part_more 32 _ c.args.left.now kind c.copy_from_slice-2.ensures.after (search rules) (search rules) in
+    all_written (part_more 32 _ c.args.right.now left c.copy_from_slice-3.ensures.after (search rules) (search rules))

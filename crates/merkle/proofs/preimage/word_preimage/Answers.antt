@@ -1,8 +1,10 @@
-use Rattle.std.proofs.Common.{[], ◌∷◌, refl, rules}
+use Rattle.std.proofs.Common.{[], ◌∷◌, replicate, refl, ◌∙◌, rules}
 use Rattle.merkle.specs.Bytes.{be4, word_preimage}
-use Rattle.merkle.proofs.Parts.{part_more, parts_all}
+use Rattle.merkle.proofs.Parts.{none_written, part_more, all_written}
 use Rattle.merkle.proofs.preimage.word_preimage.Goals as goal
 
 pub returns : goal.returns
 unfolding be4 word_preimage
-returns c = parts_all _ _ 5 (search rules) (part_more _ _ _ (be4 c.args.word) (0 ∷ []) 1 5 c.put-2.ensures c.put.ensures c.to_be_bytes.ensures refl)
+returns c =
+    let kind = part_more 1 _ (0 ∷ []) (none_written (replicate 5 0)) c.copy_from_slice.ensures.after refl (search rules) in
+    all_written (part_more 4 _ (be4 c.args.word) kind (c.copy_from_slice-2.ensures.after ∙ c.to_be_bytes.ensures) refl (search rules))

@@ -18,12 +18,12 @@ loop-level-preserved g c =
     let l = c.loop-level in
     let m = c.args.memory.now in
     let n = l.invariant.2 in
-    let within : c.loop-level.level < length c.loop-level.siblings = omega arith in
+    let within : c.loop-level.level < length c.loop-level.beside-items = omega arith in
     let s : suc (16 - (c.loop-level.level + 1)) ≡ 16 - c.loop-level.level = omega arith in
     let v = c.node_digest.ensures.value ∙ ap (λ x. node h l.level x m) c.sibling.ensures in (
-      sibling_more h (16 - l.level) (16 - (l.level + 1)) l.level l.index m _ l.siblings within s v ∙ l.invariant.0,
+      sibling_more h (16 - l.level) (16 - (l.level + 1)) l.level l.index m _ l.beside-items within s v ∙ l.invariant.0,
       half_below 16 l.level l.index c.loop-level-test.true l.invariant.1,
-      length-set l.siblings l.level c.node_digest.result ∙ n,
+      length-set l.beside-items l.level c.node_digest.result ∙ n,
     )
 
 pub returns : goal.returns
@@ -34,8 +34,8 @@ returns g c =
     let place = c.args.place in
     let low : c.args.place < 65536 = search rules in
     let w = c.word_at.ensures ∙ ap (λ a. get_or m a 0) c.from.ensures in
-    let s = sym (siblings_all h (16 - l.level) l.level l.index m l.siblings (omega arith) (omega (arith, l.invariant.2))) ∙ l.invariant.0 in
-    let whole : ◌≡◌ {A = Opening} (record { word = c.word_at.result; siblings = c.loop-level.siblings }) (honest h place m) = λ j. record { word = w j; siblings = s j } in
+    let s = sym (siblings_all h (16 - l.level) l.level l.index m l.beside-items (omega arith) (omega (arith, l.invariant.2))) ∙ l.invariant.0 in
+    let whole : ◌≡◌ {A = Opening} (record { word = c.word_at.result; siblings = c.loop-level.beside-items }) (honest h place m) = λ j. record { word = w j; siblings = s j } in
     record {
       value = whole;
       opens = ap (opened h place) whole ∙ opens h place m low;
