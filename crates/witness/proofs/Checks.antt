@@ -1,7 +1,8 @@
 -- The check of a witness, test by test.
 use Rattle.std.proofs.Common.{◌≡◌, ℕ, Bool, true, false, cond, ◌&&◌, ltb, List, [], ◌∷◌, ◌++◌, Some, None, Option, sym, refl, ap, ◌∙◌, arith, bytes_eq}
 use Rattle.std.proofs.lemmas.List.{append-nil, append_assoc}
-use Rattle.std.proofs.lemmas.Bool.{cond-true, cond-false, and_from, and_parts}
+use Rattle.std.specs.Bool.{then_some}
+use Rattle.std.proofs.lemmas.Bool.{cond-true, cond-false, and_parts}
 use Rattle.merkle.specs.Bytes.{Bytes, Hash, state_preimage}
 use Rattle.merkle.specs.Seen.{seen_all}
 use Rattle.merkle.specs.Openings.{opened, preimages}
@@ -54,13 +55,14 @@ module _ (h : Hash) (g : Bytes) (o : Witness) (r : Option ℕ) (place : r ≡ co
     digest_is : d ≡ h (state_part o)
     digest_is = is ∙ ap (λ x. h (state_preimage x o.register o.memory)) at
 
-    pub low_taken : bytes_eq d g ≡ true → Some (record { place = p; register = o.register }) ≡ cond (low o && state_fits h g o) (Some (cpu_of o)) None
-    low_taken e =
-        let t = and_from (low o) (state_fits h g o) below (ap (λ x. bytes_eq x g) (sym digest_is) ∙ e) in
-        ap (λ x. Some (record { place = x; register = o.register })) at ∙ sym (cond-true _ (Some (cpu_of o)) None t)
-
-    pub low_refused : bytes_eq d g ≡ false → None ≡ cond (low o && state_fits h g o) (Some (cpu_of o)) None
-    low_refused e = let f : state_fits h g o ≡ false = ap (λ x. bytes_eq x g) (sym digest_is) ∙ e in rw (below, f)
+    pub low_decided : (b : Bool) → b ≡ bytes_eq d g → then_some b (record { place = p; register = o.register }) ≡ cond (low o && state_fits h g o) (Some (cpu_of o)) None
+    low_decided b test =
+        let both : b ≡ (low o && state_fits h g o) = test ∙ ap (λ x. bytes_eq x g) digest_is ∙ ap (λ x. x && state_fits h g o) (sym below) in
+        (λ j. then_some (both j) (record { place = at j; register = o.register })) ∙ taken (low o && state_fits h g o)
+      where
+        taken : (a : Bool) → then_some a (cpu_of o) ≡ cond a (Some (cpu_of o)) None
+        taken true = refl
+        taken false = refl
 
     pub low_seen : {S : Type 0} (adds : S → Bytes → S) (s t : S) → t ≡ adds s (state_preimage p o.register o.memory) → t ≡ seen_all adds s (cond (low o) (state_part o ∷ []) [])
     unfolding seen_all

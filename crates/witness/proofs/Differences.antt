@@ -1,13 +1,12 @@
 -- The search in two witnesses, part by part.
-use Rattle.std.proofs.Common.{◌≡◌, ℕ, true, false, is_some, Some, None, Option, sym, refl, ap, ◌∙◌, subst, arith, bytes_eq}
+use Rattle.std.proofs.Common.{◌≡◌, ℕ, true, false, Some, None, Option, sym, ap, ◌∙◌, subst, arith, MatchOption, bytes_eq}
 use Rattle.merkle.specs.Bytes.{Bytes, Hash}
 use Rattle.merkle.specs.Collision.{Collision, or_else, last_difference}
-use Rattle.merkle.specs.Openings.{preimages}
 use Rattle.merkle.specs.Strings.{bytes_of, two_bytes}
 use Rattle.merkle.specs.declared.preimage.Preimage.{Preimage}
 use Rattle.machine.specs.Machine.{State}
 use Rattle.witness.specs.declared.Witness.{Witness}
-use Rattle.witness.specs.Witness.{witness, state_part, instruction_part, operand_part, operand_place, first_difference, Found, Collides}
+use Rattle.witness.specs.Witness.{witness, state_part, instruction_part, operand_part, first_difference, Found, Collides}
 
 -- what the search finds collides, where there is a collision to find
 pub found_collides : (h : Hash) (o own : Witness) (r : Option (Preimage × Preimage)) → two_bytes r ≡ first_difference h o own → (s : State) → own ≡ witness h s → Found h s o → Collides h r
@@ -41,20 +40,10 @@ module _ (h : Hash) (o own : Witness) (p q : Bytes) (ip : p ≡ state_part o) (i
         let t : bytes_eq (state_part o) (state_part own) ≡ true = sym test_is ∙ same in
         rw t (ap (λ x. or_else x (last_difference (operand_part h o) (operand_part h own))) (sym is))
 
-    pub ways_differ : is_some r ≡ true → two_bytes r ≡ first_difference h o own
-    ways_differ some = go r some ∙ sym after_states
+    -- t is what it found, or else, by what P says, what the search in the other ways returned
+    pub ways_differ : (t : Option (Preimage × Preimage)) {P : Type 0} → (P → two_bytes t ≡ last_difference (operand_part h o) (operand_part h own)) → MatchOption r P (λ x. t ≡ Some x) → two_bytes t ≡ first_difference h o own
+    ways_differ t {P} others m = go r m ∙ sym after_states
       where
-        go : (x : Option (Preimage × Preimage)) → is_some x ≡ true → two_bytes x ≡ or_else (two_bytes x) (last_difference (operand_part h o) (operand_part h own))
-        go None e = let z : ◌≡◌ {A = ℕ} 0 1 = cc in absurd (omega arith)
-        go (Some x) e = refl
-
-    -- and t what the search in the other ways returned, from the places a and b
-    pub others_differ : is_some r ≡ false → (a b : ℕ) (t : Option (Preimage × Preimage)) → a ≡ operand_place o → b ≡ operand_place own →
-        two_bytes t ≡ last_difference (preimages h a o.operand) (preimages h b own.operand) → two_bytes t ≡ first_difference h o own
-    others_differ gone a b t ia ib it =
-        it ∙ ap (λ x. last_difference (preimages h x o.operand) (preimages h b own.operand)) ia ∙ ap (λ x. last_difference (operand_part h o) (preimages h x own.operand)) ib
-        ∙ go r gone ∙ sym after_states
-      where
-        go : (x : Option (Preimage × Preimage)) → is_some x ≡ false → last_difference (operand_part h o) (operand_part h own) ≡ or_else (two_bytes x) (last_difference (operand_part h o) (operand_part h own))
-        go None e = refl
-        go (Some x) e = let z : ◌≡◌ {A = ℕ} 0 1 = cc in absurd (omega arith)
+        go : (x : Option (Preimage × Preimage)) → MatchOption x P (λ y. t ≡ Some y) → two_bytes t ≡ or_else (two_bytes x) (last_difference (operand_part h o) (operand_part h own))
+        go None p = others p
+        go (Some x) is = ap two_bytes is

@@ -1,6 +1,7 @@
 -- A witness is read as it was sent.
 use Rattle.std.proofs.Common.{◌≡◌, ℕ, zero, suc, ◌+◌, ◌*◌, ◌/◌, ◌^◌, ◌<◌, true, List, [], ◌∷◌, ◌++◌, length, drop, Some, sym, refl, ap, ◌∙◌, arith}
 use Rattle.std.specs.List.{flat_map}
+use Rattle.std.specs.Simd.{first_chunks}
 use Rattle.std.proofs.lemmas.List.{append-nil, append_assoc, length-append, take_at, drop_at, drop-drop}
 use Rattle.std.proofs.lemmas.Bool.{and_parts, eq-eqb}
 use Rattle.merkle.specs.Bytes.{Bytes, Hash, Whole, is_digest, all_digests, be4}
@@ -13,7 +14,7 @@ use Rattle.machine.specs.Machine.{State, place_of, fetch}
 use Rattle.witness.specs.declared.Witness.{Witness}
 use Rattle.witness.specs.Witness.{Valid, witness, shaped}
 use Rattle.witness.proofs.Steps.{honest_formed, shaped_parts}
-use Rattle.witness.specs.Wire.{opening_bytes, witness_bytes, from_be4, pieces, opening_from, witness_from, parse}
+use Rattle.witness.specs.Wire.{opening_bytes, witness_bytes, from_be4, opening_from, witness_from, parse}
 
 -- ---- numbers; with the quotients as variables `omega` has no division to think of
 made_up : (w a b c x y z t : ℕ) → w ≡ 256 * a + t → a ≡ 256 * b + z → b ≡ 256 * c + y → c ≡ x → x * 16777216 + y * 65536 + z * 256 + t ≡ w
@@ -37,15 +38,15 @@ joined_long (s ∷ ss) e =
     let r = joined_long ss p.1 in
     rw length-append (omega arith)
 
-pieces_joined : (n : ℕ) (ss : List Bytes) (r : Bytes) → length ss ≡ n → all_digests ss ≡ true → pieces n (flat_map (λ s. s) ss ++ r) ≡ ss
-unfolding pieces all_digests
-pieces_joined zero [] r l e = refl
-pieces_joined zero (s ∷ ss) r l e = absurd (omega arith)
-pieces_joined (suc n) [] r l e = absurd (omega arith)
-pieces_joined (suc n) (s ∷ ss) r l e =
+chunks_joined : (n : ℕ) (ss : List Bytes) (r : Bytes) → length ss ≡ n → all_digests ss ≡ true → first_chunks 32 n (flat_map (λ s. s) ss ++ r) ≡ ss
+unfolding all_digests
+chunks_joined zero [] r l e = refl
+chunks_joined zero (s ∷ ss) r l e = absurd (omega arith)
+chunks_joined (suc n) [] r l e = absurd (omega arith)
+chunks_joined (suc n) (s ∷ ss) r l e =
     let p = and_parts (is_digest s) (all_digests ss) e in
     let d = digest_long s p.0 in
-    rw (append_assoc, take_at, drop_at, pieces_joined n ss r (omega arith) p.1)
+    rw (append_assoc, take_at, drop_at, chunks_joined n ss r (omega arith) p.1)
 
 -- ---- an opening
 module _ (o : Opening) (f : Formed o) where
@@ -57,7 +58,7 @@ module _ (o : Opening) (f : Formed o) where
   unfolding opening_bytes be4
   opening_read r =
       let w = be4_read o.word (flat_map (λ s. s) o.siblings ++ r) f.word in
-      let s = pieces_joined 16 o.siblings r f.count f.digests in
+      let s = chunks_joined 16 o.siblings r f.count f.digests in
       λ j. record { word = w j; siblings = s j }
 
 -- ---- the witness

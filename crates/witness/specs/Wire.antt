@@ -1,6 +1,7 @@
 -- A witness as the body of message 6: place (4), register (4), memory's digest (32), word (4), 16 digests, word (4), 16 digests.
-use Rattle.std.specs.Prelude.{ℕ, zero, suc, ◌+◌, ◌*◌, cond, ◌&&◌, List, [], ◌∷◌, ◌++◌, length, take, drop, Some, None, Option, ◌==◌, slice_index}
+use Rattle.std.specs.Prelude.{ℕ, ◌+◌, ◌*◌, cond, ◌&&◌, ◌++◌, length, take, drop, Some, None, Option, ◌==◌, slice_index}
 use Rattle.std.specs.List.{flat_map}
+use Rattle.std.specs.Simd.{first_chunks}
 use Rattle.merkle.specs.Bytes.{Bytes, be4}
 use Rattle.merkle.specs.declared.opening.Opening.{Opening}
 use Rattle.witness.specs.declared.Witness.{Witness}
@@ -15,13 +16,9 @@ witness_bytes o = be4 o.place ++ (be4 o.register ++ (o.memory ++ (opening_bytes 
 abbrev pub from_be4 : Bytes → ℕ
 from_be4 b = slice_index b 0 * 16777216 + slice_index b 1 * 65536 + slice_index b 2 * 256 + slice_index b 3
 
--- The first count pieces of 32 bytes.
-unfoldable pub pieces : (count : ℕ) → Bytes → List Bytes
-pieces zero b = []
-pieces (suc n) b = take 32 b ∷ pieces n (drop 32 b)
-
+-- A word, and sixteen digests.
 abbrev pub opening_from : Bytes → Opening
-opening_from b = record { word = from_be4 b; siblings = pieces 16 (drop 4 b) }
+opening_from b = record { word = from_be4 b; siblings = first_chunks 32 16 (drop 4 b) }
 
 unfoldable pub witness_from : Bytes → Witness
 witness_from b =

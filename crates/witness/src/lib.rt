@@ -14,7 +14,7 @@ mod wire;
 
 use machine::{Cpu, Instruction, place_of};
 use merkle::{
-    Digest, Digester, Opening, Preimage, memory_digest, same, shape, state_digest, state_preimage,
+    Digest, Digester, Opening, Preimage, memory_digest, shape, state_digest, state_preimage,
 };
 
 #[derive(Clone, Copy)]
@@ -37,10 +37,7 @@ pub struct Witness {
 fn low_place(place: u32) -> Option<u16>
     ensures { result ≡ (if ltb place 65536 then Some place else None) }
 {
-    if place > 65535 {
-        return None;
-    }
-    Some(place as u16)
+    u16::try_from(place).ok()
 }
 
 impl Witness {
@@ -80,14 +77,8 @@ impl Witness {
     {
         let place = low_place(self.place)?;
         let digest = state_digest(digester, place, self.register, &self.memory);
-        if same(&digest, start) {
-            Some(Cpu {
-                place,
-                register: self.register,
-            })
-        } else {
-            None
-        }
+        let register = self.register;
+        (digest == *start).then_some(Cpu { place, register })
     }
 
     // The memory's digest after the step: for a store from the second opening, with the register in place of the word.
@@ -148,7 +139,7 @@ impl Witness {
             return Party::Doubter;
         };
         let next = self.next_digest(digester, cpu, Instruction::decode(word), operand);
-        if !same(&next, end) {
+        if next != *end {
             return Party::Doubter;
         }
         Party::Claimer
@@ -180,7 +171,7 @@ impl Witness {
     {
         let state = state_preimage(self.place, self.register, &self.memory);
         let own_state = state_preimage(own.place, own.register, &own.memory);
-        if !same(&state, &own_state) {
+        if state != own_state {
             return Some((Preimage::State(state), Preimage::State(own_state)));
         }
         let on_the_way = Opening::difference(
@@ -190,16 +181,15 @@ impl Witness {
             own.place,
             &own.instruction,
         );
-        if on_the_way.is_some() {
-            return on_the_way;
-        }
-        Opening::difference(
-            digester,
-            u32::from(place_of(self.instruction.word)),
-            &self.operand,
-            u32::from(place_of(own.instruction.word)),
-            &own.operand,
-        )
+        on_the_way.or_else(|| {
+            Opening::difference(
+                digester,
+                u32::from(place_of(self.instruction.word)),
+                &self.operand,
+                u32::from(place_of(own.instruction.word)),
+                &own.operand,
+            )
+        })
     }
 }
 

@@ -1,71 +1,35 @@
 // A shown step as bytes, the body of message 6: numbers high byte first, digests as they are.
-ghost use Rattle.std.specs.Prelude.{◌≡◌, ◌+◌, ◌≤◌, ◌++◌, length, take, drop, Some};
-ghost use Rattle.witness.specs.Wire.{parse, from_be4, opening_from, opening_bytes, witness_bytes};
+ghost use Rattle.std.specs.Prelude.{◌≡◌, Some};
+ghost use Rattle.witness.specs.Wire.{parse, opening_from, opening_bytes, witness_bytes};
 
 use crate::Witness;
-use merkle::{Digest, Opening};
+use merkle::Opening;
 
-// Place and register (4 bytes each), the memory's digest (32), and two openings (516 each).
+// A word (4 bytes) and sixteen digests (32 each).
+const OPENING: usize = 516;
+
+// Place and register (4 bytes each), the memory's digest (32), and two openings.
 const LENGTH: usize = 1072;
 
-// The number in the four bytes from `at` on.
-fn word_at(bytes: &[u8], at: usize) -> u32
-    requires { at + 4 ≤ length bytes.now }
-    ensures { result ≡ from_be4 (drop at bytes.now) }
+// The opening in its bytes.
+fn opening(bytes: &[u8; OPENING]) -> Opening
+    ensures { result ≡ opening_from bytes.now }
 {
-    u32::from_be_bytes([bytes[at], bytes[at + 1], bytes[at + 2], bytes[at + 3]])
-}
-
-// The 32 bytes from `at` on.
-fn digest_at(bytes: &[u8], at: usize) -> Digest
-    requires { at + 32 ≤ length bytes.now }
-    ensures { result ≡ take 32 (drop at bytes.now) }
-{
-    let mut digest = [0; 32];
-    digest.copy_from_slice(&bytes[at..at + 32]);
-    digest
-}
-
-// The opening in the 516 bytes from `at` on.
-fn opening_at(bytes: &[u8], at: usize) -> Opening
-    requires { at + 516 ≤ length bytes.now }
-    ensures { result ≡ opening_from (drop at bytes.now) }
-{
-    let mut siblings = [[0; 32]; 16];
-    for level in 0..16 {
-        siblings[level] = digest_at(bytes, at + 4 + 32 * level);
-    }
+    let (word, siblings) = bytes.split_first_chunk::<4>().unwrap();
     Opening {
-        word: word_at(bytes, at),
-        siblings,
+        word: u32::from_be_bytes(*word),
+        siblings: *siblings.as_chunks::<32>().0.as_array::<16>().unwrap(),
     }
 }
 
-// Writes `part` into `bytes` from `at` on.
-fn put(bytes: &mut [u8], at: usize, part: &[u8])
-    requires { at + length part.now ≤ length bytes.old }
-    ensures { take (at + length part.now) bytes.new ≡ take at bytes.old ++ part.now }
+// The bytes of an opening.
+fn bytes_of(opening: &Opening) -> [u8; OPENING]
+    ensures { result ≡ opening_bytes opening.now }
 {
-    bytes[at..at + part.len()].copy_from_slice(part);
-}
-
-// Writes a digest into `bytes` from `at` on.
-fn put_digest(bytes: &mut [u8], at: usize, digest: &Digest)
-    requires { at + 32 ≤ length bytes.old }
-    ensures { take (at + 32) bytes.new ≡ take at bytes.old ++ digest.now }
-{
-    put(bytes, at, digest);
-}
-
-// Writes an opening into `bytes` from `at` on.
-fn put_opening(bytes: &mut [u8], at: usize, opening: &Opening)
-    requires { at + 516 ≤ length bytes.old }
-    ensures { take (at + 516) bytes.new ≡ take at bytes.old ++ opening_bytes opening.now }
-{
-    put(bytes, at, &opening.word.to_be_bytes());
-    for level in 0..16 {
-        put_digest(bytes, at + 4 + 32 * level, &opening.siblings[level]);
-    }
+    let mut bytes = [0; OPENING];
+    bytes[0..4].copy_from_slice(&opening.word.to_be_bytes());
+    bytes[4..516].copy_from_slice(opening.siblings.as_flattened());
+    bytes
 }
 
 impl Witness {
@@ -73,15 +37,17 @@ impl Witness {
     pub fn from_bytes(bytes: &[u8]) -> Option<Witness>
         ensures { result ≡ parse 6 bytes.now }
     {
-        if bytes.len() != LENGTH {
-            return None;
-        }
+        let (place, rest) = bytes.split_first_chunk::<4>()?;
+        let (register, rest) = rest.split_first_chunk::<4>()?;
+        let (memory, rest) = rest.split_first_chunk::<32>()?;
+        let (instruction, rest) = rest.split_first_chunk::<OPENING>()?;
+        let operand = rest.as_array::<OPENING>()?;
         Some(Witness {
-            place: word_at(bytes, 0),
-            register: word_at(bytes, 4),
-            memory: digest_at(bytes, 8),
-            instruction: opening_at(bytes, 40),
-            operand: opening_at(bytes, 556),
+            place: u32::from_be_bytes(*place),
+            register: u32::from_be_bytes(*register),
+            memory: *memory,
+            instruction: opening(instruction),
+            operand: opening(operand),
         })
     }
 
@@ -92,11 +58,11 @@ impl Witness {
     {
         self.shape();
         let mut bytes = [0; LENGTH];
-        put(&mut bytes, 0, &self.place.to_be_bytes());
-        put(&mut bytes, 4, &self.register.to_be_bytes());
-        put(&mut bytes, 8, &self.memory);
-        put_opening(&mut bytes, 40, &self.instruction);
-        put_opening(&mut bytes, 556, &self.operand);
+        bytes[0..4].copy_from_slice(&self.place.to_be_bytes());
+        bytes[4..8].copy_from_slice(&self.register.to_be_bytes());
+        bytes[8..40].copy_from_slice(&self.memory);
+        let openings = [bytes_of(&self.instruction), bytes_of(&self.operand)];
+        bytes[40..1072].copy_from_slice(openings.as_flattened());
         bytes
     }
 }
