@@ -11,17 +11,8 @@ returns-then-level-eq0 g t c =
       seen = seen_leaf d.hash c.args.level c.args.index _ _ c.if-level-eq0.true c.word_at.ensures d.adds _ _ e.seen;
     }
 
-pub overflow_mul-index : goal.overflow_mul-index
-overflow_mul-index g t c = let p = parts c.args.level c.args.index 65536 c.if-level-eq0.false c.requires in search rules
-
 pub node_digest-left-requires : goal.node_digest-left-requires
 node_digest-left-requires g t c κs within = (search rules, (within, (parts c.args.level c.args.index 65536 c.if-level-eq0.false c.requires).left))
-
-pub overflow_mul-index-2 : goal.overflow_mul-index-2
-overflow_mul-index-2 g t c = let p = parts c.args.level c.args.index 65536 c.if-level-eq0.false c.requires in search rules
-
-pub overflow_add-index : goal.overflow_add-index
-overflow_add-index g t c = let p = parts c.args.level c.args.index 65536 c.if-level-eq0.false c.requires in search rules
 
 pub node_digest-right-requires : goal.node_digest-right-requires
 node_digest-right-requires g t c κs within = (search rules, (within, (parts c.args.level c.args.index 65536 c.if-level-eq0.false c.requires).right))
