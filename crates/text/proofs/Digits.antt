@@ -2,12 +2,13 @@
 use Rattle.std.proofs.Common.{◌≡◌, ℕ, ◌+◌, ◌-◌, ◌*◌, ◌/◌, ◌%◌, ◌^◌, ◌<◌, ◌≤◌, true, false, cond, eqb, ◌⊎◌, [], ◌∷◌, ◌++◌, length, get_or, drop, Some, None, decimal, sym, refl, ap, ◌∙◌, inl, inr, arith}
 use Rattle.std.proofs.lemmas.Fmt.{decimal_by_steps, decimal_nonempty}
 use Rattle.std.proofs.lemmas.List.{at_drop_more, at_drop_all}
-use Rattle.std.proofs.lemmas.Bool.{and_from, cond-true, cond-false, cond_both, le-leb, lt-leb, eqb-false, ne_eqb}
+use Rattle.std.proofs.lemmas.Bool.{cond-true, cond-false, cond_both, lt-leb, ne_eqb}
+use Rattle.std.proofs.lemmas.Bool.Decides.{nat_tests}
 use Rattle.merkle.specs.Bytes.{Bytes}
 use Rattle.text.specs.Text.{is_digit, number_from, number, up_to}
 
 number_some : (t : Bytes) → eqb (length t) 0 ≡ false → number t ≡ number_from 0 t
-number_some [] h = absurd (eqb-false 0 0 h refl)
+number_some [] h = cc
 number_some (c ∷ cs) h = refl
 
 -- a number above the limit stays above it
@@ -42,7 +43,7 @@ module _ (t : Bytes) (limit n i : ℕ) (some : eqb (length t) 0 ≡ false) (goes
 
 -- ---- a number that was written is read
 is_digit_written : (d : ℕ) → d < 10 → is_digit (48 + d) ≡ true
-is_digit_written d h = and_from _ _ (le-leb 48 (48 + d) (omega arith)) (le-leb (48 + d) 57 (omega arith))
+is_digit_written d h = grind (arith, nat_tests)
 
 number_push : (cs : Bytes) (n m d v : ℕ) → number_from n cs ≡ Some m → d < 10 → m * 10 + d ≡ v → number_from n (cs ++ (48 + d) ∷ []) ≡ Some v
 unfolding number_from
@@ -51,7 +52,7 @@ number_push [] n m d v is h e =
     cond-true _ _ _ (is_digit_written d h) ∙ ap Some (omega arith)
 number_push (c ∷ cs) n m d v is h e =
     cond_both (is_digit c) (number_from (n * 10 + (c - 48)) cs) None (λ o. o ≡ Some m → cond (is_digit c) (number_from (n * 10 + (c - 48)) (cs ++ (48 + d) ∷ [])) None ≡ Some v)
-    (λ digit so. cond-true _ _ _ digit ∙ number_push cs (n * 10 + (c - 48)) m d v so h e) (λ _ so. let z : ◌≡◌ {A = ℕ} 0 1 = cc in absurd (omega arith)) is
+    (λ digit so. cond-true _ _ _ digit ∙ number_push cs (n * 10 + (c - 48)) m d v so h e) (λ _ so. cc) is
 
 pub number_decimal : (n : ℕ) → n < 2 ^ 64 → number (decimal n) ≡ Some n
 unfolding number_from

@@ -1,4 +1,3 @@
 pub mod Digits
-mod Pairs
 pub mod Unhex
 mod Wholes

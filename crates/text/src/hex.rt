@@ -5,18 +5,6 @@ ghost use Rattle.text.specs.Text.{hex_digit, hexadecimal, hex_value, hex_pair, u
 
 use std::alloc::{AllocError, Global};
 
-fn digit(value: u8) -> char
-    requires { value < 16 }
-    ensures value { result ≡ hex_digit value }
-    ensures ascii { result < 128 }
-{
-    if value < 10 {
-        char::from(b'0' + value)
-    } else {
-        char::from(b'a' - 10 + value)
-    }
-}
-
 // Two lower-case digits for each byte; these are read as the bytes again.
 pub fn encode(heap: Global, bytes: &[u8]) -> Result<String, AllocError>
     ensures value { IfOk result (λ s. string_bytes s ≡ hexadecimal bytes.now) }
@@ -24,48 +12,40 @@ pub fn encode(heap: Global, bytes: &[u8]) -> Result<String, AllocError>
 {
     let mut text = String::new(heap);
     for byte in bytes {
-        text.push(digit(*byte / 16))?;
-        text.push(digit(*byte % 16))?;
+        write!(text, "{byte:02x}")?;
     }
     Ok(text)
 }
 
 // The value of a digit, in either case.
-fn value(digit: u8) -> Option<u8>
+fn value(digit: u8) -> Option<u32>
     ensures value { result ≡ hex_value digit }
     ensures small { IfSome result (λ v. v < 16) }
 {
-    match digit {
-        b'0'..=b'9' => Some(digit - b'0'),
-        b'a'..=b'f' => Some(digit - b'a' + 10),
-        b'A'..=b'F' => Some(digit - b'A' + 10),
-        _ => None,
-    }
+    char::from(digit).to_digit(16)
 }
 
 // The byte of two digits, the high one first.
 fn byte(high: u8, low: u8) -> Option<u8>
     ensures { result ≡ hex_pair high low }
 {
-    Some(value(high)? * 16 + value(low)?)
+    Some((value(high)? * 16 + value(low)?) as u8)
 }
 
 // The bytes of a text of digits; none where it is no such text, or a digit is left over.
 pub fn decode(heap: Global, text: &[u8]) -> Result<Option<Vec<u8>>, AllocError>
     ensures { IfOk result (λ o. option_map vec_items o ≡ unhex text.now) }
 {
+    let (pairs, rest) = text.as_chunks::<2>();
+    if !rest.is_empty() {
+        return Ok(None);
+    }
     let mut bytes = Vec::new(heap);
-    let mut left = text;
-    while let [high, low, rest @ ..] = left {
+    for [high, low] in pairs {
         let Some(next) = byte(*high, *low) else {
             return Ok(None);
         };
         bytes.push(next)?;
-        left = rest;
     }
-    if left.is_empty() {
-        Ok(Some(bytes))
-    } else {
-        Ok(None)
-    }
+    Ok(Some(bytes))
 }

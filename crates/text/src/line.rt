@@ -34,14 +34,13 @@ fn from_start<D: Digester, W: Watch>(
         place: 0,
         register: 0,
     };
-    let Some(cpu) = machine::run(memory, start, steps, watch) else {
-        unreachable()
-    };
+    let cpu = machine::run(memory, start, steps, watch).unwrap();
     let digest = machine::digest(digester, cpu, memory);
     of(heap, cpu, &digest)
 }
 
 // The line of a program's state after so many steps.
+#[tactic(auto, using(crate::proofs::Wholes::program_whole))]
 pub fn after<D: Digester, W: Watch>(
     heap: Global,
     file: &[u8],
@@ -52,8 +51,5 @@ pub fn after<D: Digester, W: Watch>(
     ensures { Made file.now (λ s. string_bytes s ≡ state_line D.hash (runs steps (start (filled file.now)))) result }
 {
     let mut memory = program::load(heap, file)?;
-    match from_start(heap, &mut memory, steps, digester, watch) {
-        Ok(line) => Ok(line),
-        Err(_) => Err(LoadError::NoMemory),
-    }
+    Ok(from_start(heap, &mut memory, steps, digester, watch)?)
 }

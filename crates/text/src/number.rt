@@ -6,7 +6,7 @@ ghost use Rattle.text.specs.Text.{number, up_to, Appended};
 fn append(value: u64, byte: u8) -> Option<u64>
     ensures { Appended value byte result }
 {
-    if byte < b'0' || byte > b'9' {
+    if !byte.is_ascii_digit() {
         return None;
     }
     value.checked_mul(10)?.checked_add(u64::from(byte - b'0'))
@@ -21,13 +21,7 @@ pub fn parse(text: &[u8], limit: u64) -> Option<u64>
     }
     let mut value = 0;
     for byte in text {
-        let Some(next) = append(value, *byte) else {
-            return None;
-        };
-        value = next;
+        value = append(value, *byte)?;
     }
-    if value > limit {
-        return None;
-    }
-    Some(value)
+    (value <= limit).then_some(value)
 }

@@ -1,13 +1,15 @@
 // Program files.
 ghost use Rattle.std.specs.Prelude.{◌≡◌, ◌-◌, ◌≤◌, ◌++◌, map, length, replicate, IfOk};
+ghost use Rattle.text.specs.declared.program.LoadError.TheVariants.{NoMemory};
 ghost use Rattle.text.specs.Program.{Made, program, refusal, word_in};
 
 use machine::WORDS;
 use std::alloc::{AllocError, Global};
+use std::error::Error;
 use std::fmt;
 
 // Why there is no program.
-#[derive(Clone, Copy)]
+#[derive(Clone, Copy, Debug, PartialEq, Eq)]
 pub enum LoadError {
     NotWords,
     TooLong,
@@ -37,15 +39,25 @@ impl fmt::Display for LoadError {
     }
 }
 
+impl Error for LoadError {}
+
+impl From<AllocError> for LoadError {
+    ghost from_gives = { λ _ e. e ≡ NoMemory };
+
+    fn from(_e: AllocError) -> LoadError {
+        LoadError::NoMemory
+    }
+}
+
 // A memory with these words at its front, and zeros.
 fn filled(heap: Global, words: &[[u8; 4]]) -> Result<Vec<u32>, AllocError>
     requires { length words.now ≤ 65536 }
     ensures { IfOk result (λ v. v.items ≡ map word_in words.now ++ replicate (65536 - length words.now) 0) }
 {
-    let mut memory = Vec::with_capacity(heap, WORDS)?;
-    for word in words {
-        memory.push(u32::from_be_bytes(*word))?;
-    }
+    let mut memory: Vec<u32> = words
+        .iter()
+        .map(|word| u32::from_be_bytes(*word))
+        .collect(heap)?;
     memory.resize(WORDS, 0)?;
     Ok(memory)
 }
@@ -61,8 +73,5 @@ pub fn load(heap: Global, file: &[u8]) -> Result<Vec<u32>, LoadError>
     if words.len() > WORDS {
         return Err(LoadError::TooLong);
     }
-    match filled(heap, words) {
-        Ok(memory) => Ok(memory),
-        Err(_) => Err(LoadError::NoMemory),
-    }
+    Ok(filled(heap, words)?)
 }

@@ -37,10 +37,8 @@ impl<'a> Progress<'a> {
         let Some(told) = self.told else {
             return false;
         };
-        match told.elapsed(self.rt) {
-            Ok(time) => time >= Duration::from_secs(1),
-            Err(_) => false,
-        }
+        told.elapsed(self.rt)
+            .is_ok_and(|time| time >= Duration::from_secs(1))
     }
 }
 
@@ -53,9 +51,7 @@ impl Watch for Progress<'_> {
         if self.steps <= SHORT || !self.due() {
             return;
         }
-        let name = self.name;
-        let all = self.steps;
-        let _ = eprintln!(self.rt; "{name}: {steps} of {all} steps");
+        let _ = eprintln!(self.rt; "{}: {steps} of {} steps", self.name, self.steps);
         self.told = Instant::now(self.rt).ok();
     }
 }

@@ -1,20 +1,30 @@
-use Rattle.std.proofs.Common.{sym, rules}
-use Rattle.text.proofs.Unhex.{unhex_starts, unhex_not, unhex_more, unhex_end, unhex_odd}
+use Rattle.std.proofs.Common.{◌+◌, vec_items, drop, sym, ◌∙◌, ap, rules}
+use Rattle.text.proofs.Unhex.{onto, pairs_value, unhex_pairs, unhex_odd, onto_none, pairs_not, pairs_more, pairs_end}
 use Rattle.text.proofs.hex.decode.Goals as goal
 
-pub loop-left-init : goal.loop-left-init
-loop-left-init c = unhex_starts _ c.args.text.now c.new-bytes.ensures.items
+pub returns-then-not-is_empty : goal.returns-then-not-is_empty
+returns-then-not-is_empty c = sym (unhex_odd c.args.text.now (search rules))
 
-pub loop-left-preserved : goal.loop-left-preserved
-loop-left-preserved c =
-    let l = c.loop-left in
-    unhex_more _ l.left.now c.args.text.now l.invariant _ c.in-Some.next (search rules) c.in-Some.ensures c.in_ok-push.ensures.items
+pub loop-high-init : goal.loop-high-init
+loop-high-init c = search (rules, onto_none)
 
-pub returns-in_default-byte : goal.returns-in_default-byte
-returns-in_default-byte c = unhex_not _ c.loop-left.left.now c.args.text.now c.loop-left.invariant (search rules) c.in_default-byte.ensures
+pub loop-high-preserved : goal.loop-high-preserved
+loop-high-preserved c =
+    let l = c.loop-high in
+    let ps = c.as_chunks.result.0.now in
+    ap (λ bs. onto bs (pairs_value (drop (l.high-index + 1) ps))) c.in_ok-push.ensures.items
+    ∙ pairs_more ps l.high-index (vec_items l.bytes) l.invariant c.loop-high-test.true c.in-Some.next c.in-Some.ensures
 
-pub returns-then-is_empty : goal.returns-then-is_empty
-returns-then-is_empty c = unhex_end _ c.loop-left.left.now c.args.text.now c.loop-left.invariant (sym c.if-is_empty.ensures)
+pub returns-in_default : goal.returns-in_default
+returns-in_default c =
+    let l = c.loop-high in
+    let ps = c.as_chunks.result.0.now in
+    pairs_not ps l.high-index (vec_items l.bytes) l.invariant c.loop-high-test.true c.in_default.ensures
+    ∙ ap pairs_value c.as_chunks.ensures.front ∙ sym (unhex_pairs c.args.text.now (search rules))
 
-pub returns-else-is_empty : goal.returns-else-is_empty
-returns-else-is_empty c = unhex_odd _ c.loop-left.left.now c.args.text.now c.loop-left.invariant (search rules) (sym c.if-is_empty.ensures)
+pub returns : goal.returns
+returns c =
+    let l = c.loop-high in
+    let ps = c.as_chunks.result.0.now in
+    pairs_end ps l.high-index (vec_items l.bytes) l.invariant c.loop-high-test.false
+    ∙ ap pairs_value c.as_chunks.ensures.front ∙ sym (unhex_pairs c.args.text.now (search rules))

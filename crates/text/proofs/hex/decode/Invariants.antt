@@ -1,11 +1,7 @@
-use Rattle.std.proofs.Common.{◌≡◌, length, vec_items}
-use Rattle.text.specs.Text.{unhex}
-use Rattle.text.proofs.Unhex.{onto}
+use Rattle.std.proofs.Common.{◌≡◌, drop, vec_items}
+use Rattle.text.proofs.Unhex.{onto, pairs_value}
 use Rattle.text.proofs.hex.decode.Given as goal
 
--- the bytes so far go on with those of the digits left
-abbrev pub invariant-loop-left : goal.invariant-loop-left
-invariant-loop-left l = onto (vec_items l.bytes) (unhex l.left) ≡ unhex l.text
-
-abbrev pub decreases-loop-left : goal.decreases-loop-left
-decreases-loop-left l = length l.left
+-- the bytes so far go on with those of the pairs left
+abbrev pub invariant-loop-high : goal.invariant-loop-high
+invariant-loop-high l = onto (vec_items l.bytes) (pairs_value (drop l.high-index l.pairs)) ≡ pairs_value l.pairs

@@ -1,7 +1,0 @@
-use Rattle.std.proofs.Common.{◌≡◌, ◌*◌, length, take}
-use Rattle.std.specs.List.{flat_map}
-use Rattle.sha256.specs.Sha256.{be32}
-use Rattle.sha256.proofs.to_bytes.Given as goal
-
-abbrev pub invariant-loop-i : goal.invariant-loop-i
-invariant-loop-i l = (take (4 * l.i) l.out ≡ flat_map be32 (take l.i l.state)) × (length l.out ≡ 32)
