@@ -1,6 +1,6 @@
 -- The words that differ lead from one memory to the other.
-use Rattle.std.proofs.Common.{◌≡◌, ℕ, ◌+◌, ◌<◌, ◌≤◌, Bool, true, false, cond, eqb, List, [], ◌∷◌, ◌++◌, length, get_or, drop, sym, refl, ap, ◌∙◌, arith}
-use Rattle.std.proofs.lemmas.List.{append_assoc, append-nil, length_push, set_at, drop_all, drop_more}
+use Rattle.std.proofs.Common.{◌≡◌, ℕ, ◌+◌, ◌<◌, ◌≤◌, Bool, true, false, cond, eqb, List, [], ◌∷◌, ◌++◌, length, get_or, set, drop, sym, refl, ap, ◌∙◌, arith}
+use Rattle.std.proofs.lemmas.List.{append_assoc, append-nil, length_push, set_at, drop_all, drop_more, at_drop_more, at_drop_all}
 use Rattle.std.proofs.lemmas.Bool.{eqb-true, eq-eqb, ne_eqb}
 use Rattle.history.specs.declared.Change.{Change}
 use Rattle.history.specs.Keeping.{differing, patched}
@@ -28,10 +28,17 @@ patched_from front (x ∷ xs) (y ∷ ys) i e l =
 pub patched_differing : (b a : List ℕ) → length b ≡ length a → patched (differing 0 b a) b ≡ a
 patched_differing b a l = patched_from [] b a 0 refl l
 
--- a loop over the places, where cs are the changes so far: none yet, at a word that is the same, at one that differs, and at its end
-pub differing_none : (cs : List Change) (b a : List ℕ) → cs ≡ [] → cs ++ differing 0 (drop 0 b) (drop 0 a) ≡ differing 0 b a
-differing_none cs b a e = ap (λ xs. xs ++ differing 0 b a) e
+-- a loop over changes, at its next one and at its end
+pub patched_more : (cs : List Change) (i q : ℕ) (d : Change) (m : List ℕ) → i < length cs → q ≡ (get_or cs i d).place →
+    patched (drop (i + 1) cs) (set m q (get_or cs i d).word) ≡ patched (drop i cs) m
+unfolding patched
+patched_more cs i q d m l e = ap (λ k. patched (drop (i + 1) cs) (set m k (get_or cs i d).word)) e ∙ sym (at_drop_more (λ xs. patched xs m) cs i d l)
 
+pub patched_all : (cs : List Change) (i : ℕ) (m : List ℕ) → length cs ≤ i → patched (drop i cs) m ≡ m
+unfolding patched
+patched_all cs i m l = at_drop_all (λ xs. patched xs m) cs i l
+
+-- a loop over the places, where cs are the changes so far: at a word that is the same, at one that differs, and at its end
 differing_at : (i : ℕ) (b a : List ℕ) (t : Bool) → i < length b → i < length a → eqb (get_or b i 0) (get_or a i 0) ≡ t →
     differing i (drop i b) (drop i a) ≡
     cond t (differing (i + 1) (drop (i + 1) b) (drop (i + 1) a)) (record { place = i; word = get_or a i 0 } ∷ differing (i + 1) (drop (i + 1) b) (drop (i + 1) a))

@@ -28,10 +28,6 @@ unfoldable pub resumed : List Slice → State → State
 resumed [] s = s
 resumed (x ∷ xs) s = resumed xs (after x s)
 
--- All the numbers of a state.
-abbrev pub numbers : State → List ℕ
-numbers s = s.cpu.place ∷ s.cpu.register ∷ s.memory
-
 -- What slices say of a program's run: where i of them end, the run has made i times 2^20 steps.
 abbrev pub Keeps : (program : List ℕ) → List Slice → Type 0
-Keeps p xs = (i : ℕ) → i ≤ length xs → numbers (resumed (take i xs) (start p)) ≡ numbers (run (i * spacing) (start p))
+Keeps p xs = (i : ℕ) → i ≤ length xs → resumed (take i xs) (start p) ≡ run (i * spacing) (start p)

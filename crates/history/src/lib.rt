@@ -2,13 +2,14 @@
 #![tactic(auto)]
 
 ghost use Rattle.std.specs.Prelude.{◌≡◌, ◌+◌, ◌*◌, ◌/◌, ◌^◌, ◌<◌, ◌≤◌, max, true, length, is_ok, IfOk, if◌then◌else◌, vec_len, MatchOption, OnOk, ◌≢◌};
-ghost use Rattle.machine.specs.Machine.{start, step, run as runs, digest as digests};
+ghost use Rattle.machine.specs.Machine.{State, start, step, run as runs, digest as digests};
 ghost use Rattle.witness.specs.Witness.{witness as shown, accepts};
-ghost use Rattle.history.specs.Keeping.{Keeps, differing, patched, resumed, spacing};
+ghost use Rattle.history.specs.Keeping.{Keeps, after, differing, patched, spacing};
 
 use machine::{Cpu, Unwatched, WORDS, Watch, digest, run};
 use merkle::{Digest, Digester};
 use std::alloc::{AllocError, Global};
+use std::marker::Model;
 use witness::Witness;
 
 // How many steps a slice of the run has.
@@ -31,68 +32,92 @@ struct Slice {
 // A program, and the first slices of its run.
 #[derive(Drop)]
 pub struct History {
-    heap: Global,
     program: Vec<u32>,
     slices: Vec<Slice>,
     ghost size: { vec_len program ≡ 65536 },
     ghost kept: { Keeps program.items slices.items },
 }
 
-// Makes changes, one after another.
-fn patch(memory: &mut [u32], changes: &[Change])
-    requires { length memory.old ≡ 65536 }
-    ensures { memory.new ≡ patched changes.now memory.old }
-{
-    for change in changes {
-        memory[change.place as usize] = change.word;
-    }
+// The machine at some point of a program's run.
+#[derive(Drop)]
+struct Snapshot {
+    cpu: Cpu,
+    memory: Vec<u32>,
 }
 
-// Goes through slices, one after another, from the beginning of a run.
-fn replay(memory: &mut [u32], slices: &[Slice]) -> Cpu
-    requires { length memory.old ≡ 65536 }
-    ensures { record { cpu = result; memory = memory.new } ≡ resumed slices.now (start memory.old) }
-{
-    let mut cpu = Cpu {
-        place: 0,
-        register: 0,
-    };
-    for slice in slices {
-        cpu = slice.cpu;
-        patch(memory, &slice.changes);
-    }
-    cpu
+impl Model for Snapshot {
+    ghost Value = { State };
+
+    ghost view = { λ s. record { cpu = s.cpu; memory = s.memory.items } };
+
+    ghost invariant = { λ s. vec_len s.memory ≡ 65536 };
 }
 
-// The words of `after` that differ from those of `before`.
-fn differences(heap: Global, before: &[u32], after: &[u32]) -> Result<Vec<Change>, AllocError>
-    requires before { length before.now ≡ 65536 }
-    requires after { length after.now ≡ 65536 }
-    ensures { IfOk result (λ v. v.items ≡ differing 0 before.now after.now) }
-{
-    let mut changes = Vec::new(heap);
-    for place in 0..WORDS {
-        let word = after[place];
-        if before[place] != word {
-            changes.push(Change {
-                place: place as u16,
-                word,
-            })?;
+impl Snapshot {
+    // Another one, at the same point.
+    fn copied(&self) -> Result<Snapshot, AllocError>
+        ensures { IfOk result (λ s. s ≡ self.now) }
+    {
+        let memory = Vec::from_slice(*self.memory.allocator(), &self.memory)?;
+        Ok(Snapshot {
+            cpu: self.cpu,
+            memory,
+        })
+    }
+
+    // Runs so many steps.
+    fn run_on(&mut self, steps: u64)
+        ensures { self.new ≡ runs steps self.old }
+    {
+        self.cpu = run(&mut self.memory, self.cpu, steps, &mut Unwatched).unwrap();
+    }
+
+    // Goes from the beginning of a slice to its end.
+    #[tactic(auto, using(crate::proofs::Patches::patched_more, crate::proofs::Patches::patched_all))]
+    fn resume(&mut self, slice: &Slice)
+        ensures { self.new ≡ after slice.now self.old }
+    {
+        for change in &slice.changes {
+            self.memory[usize::from(change.place)] = change.word;
         }
+        self.cpu = slice.cpu;
     }
-    Ok(changes)
-}
 
-// Runs so many steps.
-fn run_on(memory: &mut [u32], cpu: Cpu, steps: u64) -> Cpu
-    requires { length memory.old ≡ 65536 }
-    ensures { record { cpu = result; memory = memory.new } ≡ runs steps (record { cpu = cpu; memory = memory.old }) }
-{
-    run(memory, cpu, steps, &mut Unwatched).unwrap()
+    // The words that differ from those before.
+    #[tactic(auto, using(crate::proofs::Patches::differing_same, crate::proofs::Patches::differing_more, crate::proofs::Patches::differing_all, crate::proofs::Patches::patched_differing))]
+    fn changes_since(&self, before: &Snapshot) -> Result<Vec<Change>, AllocError>
+        ensures words { IfOk result (λ v. v.items ≡ differing 0 before.now.memory self.now.memory) }
+        ensures leads { IfOk result (λ v. patched v.items before.now.memory ≡ self.now.memory) }
+    {
+        let mut changes = Vec::new(*self.memory.allocator());
+        // No zip with `before`: the proof that each place fits 16 bits does not close over it.
+        for (place, word) in self.memory.iter().enumerate() {
+            if before.memory[place] != *word {
+                changes.push(Change {
+                    place: place as u16,
+                    word: *word,
+                })?;
+            }
+        }
+        Ok(changes)
+    }
+
+    // Runs on to the end of the next slice, which it makes.
+    fn next_slice(&mut self) -> Result<Slice, AllocError>
+        ensures state { OnOk result (self.new ≡ runs spacing self.old) }
+        ensures slice { IfOk result (λ x. after x self.old ≡ self.new) }
+    {
+        let before = self.copied()?;
+        self.run_on(SPACING);
+        let changes = self.changes_since(&before)?;
+        let cpu = self.cpu;
+        Ok(Slice { cpu, changes })
+    }
 }
 
 impl History {
     // Of a program, with no slices yet. Another size than 65,536 words is refused.
+    #[tactic(auto, using(crate::proofs::Slices::keeps_none))]
     pub fn new(heap: Global, program: Vec<u32>) -> Option<History>
         ensures { MatchOption result (vec_len program ≢ 65536) (λ h. (h.program ≡ program) × (vec_len h.slices ≡ 0)) }
     {
@@ -100,69 +125,38 @@ impl History {
             return None;
         }
         Some(History {
-            heap,
             program,
             slices: Vec::new(heap),
         })
     }
 
     // The state at the end of so many slices.
-    fn at_end_of(&self, slices: usize) -> Result<(Cpu, Vec<u32>), AllocError>
+    #[tactic(auto, using(crate::proofs::Slices::resumed_all))]
+    fn at_end_of(&self, slices: usize) -> Result<Snapshot, AllocError>
         requires { slices ≤ vec_len self.now.slices }
-        ensures size { IfOk result (λ s. vec_len s.1 ≡ 65536) }
-        ensures state { IfOk result (λ s. record { cpu = s.0; memory = s.1.items } ≡ runs (slices * spacing) (start self.now.program.items)) }
+        ensures { IfOk result (λ s. s ≡ runs (slices * spacing) (start self.now.program.items)) }
     {
-        let mut memory = Vec::from_slice(self.heap, &self.program)?;
-        let cpu = replay(&mut memory, &self.slices[0..slices]);
-        Ok((cpu, memory))
+        let memory = Vec::from_slice(*self.program.allocator(), &self.program)?;
+        let mut state = Snapshot {
+            cpu: Cpu::default(),
+            memory,
+        };
+        for slice in &self.slices[..slices] {
+            state.resume(slice);
+        }
+        Ok(state)
     }
 
-    // Keeps one slice more; `cpu` and `memory` are the state at the end of the others, and then at its end.
-    fn keep_next(
-        &mut self,
-        cpu: Cpu,
-        memory: &mut [u32],
-        before: &mut [u32],
-    ) -> Result<Cpu, AllocError>
-        requires memory { length memory.old ≡ 65536 }
-        requires before { length before.old ≡ 65536 }
-        requires state { record { cpu = cpu; memory = memory.old } ≡ runs (vec_len self.old.slices * spacing) (start self.old.program.items) }
+    // Keeps one slice more; `state` is the one at the end of the others, and then at its end.
+    #[tactic(auto, using(machine::proofs::Runs::run_add))]
+    fn keep_next(&mut self, state: &mut Snapshot) -> Result<(), AllocError>
+        requires { state.old ≡ runs (vec_len self.old.slices * spacing) (start self.old.program.items) }
         ensures program { self.new.program ≡ self.old.program }
         ensures slices { vec_len self.new.slices ≡ (if is_ok result then vec_len self.old.slices + 1 else vec_len self.old.slices) }
-        ensures state { IfOk result (λ next. record { cpu = next; memory = memory.new } ≡ runs ((vec_len self.old.slices + 1) * spacing) (start self.old.program.items)) }
+        ensures state { OnOk result (state.new ≡ runs ((vec_len self.old.slices + 1) * spacing) (start self.old.program.items)) }
     {
-        before.copy_from_slice(memory);
-        let next = run_on(memory, cpu, SPACING);
-        let changes = differences(self.heap, before, memory)?;
-        self.slices.push(Slice { cpu: next, changes })?;
-        Ok(next)
-    }
-
-    // Keeps slices until there are so many; `cpu` and `memory` are the state at the end of those that there are.
-    fn keep_until<W: Watch>(
-        &mut self,
-        wanted: u64,
-        cpu: Cpu,
-        memory: &mut [u32],
-        before: &mut [u32],
-        watch: &mut W,
-    ) -> Result<(), AllocError>
-        requires wanted { wanted * spacing < 2 ^ 64 }
-        requires memory { length memory.old ≡ 65536 }
-        requires before { length before.old ≡ 65536 }
-        requires state { record { cpu = cpu; memory = memory.old } ≡ runs (vec_len self.old.slices * spacing) (start self.old.program.items) }
-        ensures program { self.new.program ≡ self.old.program }
-        ensures more { vec_len self.old.slices ≤ vec_len self.new.slices }
-        ensures slices { OnOk result (vec_len self.new.slices ≡ max (vec_len self.old.slices) wanted) }
-    {
-        let mut cpu = cpu;
-        let mut count = self.slices.len() as u64;
-        while count < wanted {
-            let next = self.keep_next(cpu, memory, before)?;
-            cpu = next;
-            count += 1;
-            watch.done(count * SPACING);
-        }
+        let slice = state.next_slice()?;
+        self.slices.push(slice)?;
         Ok(())
     }
 
@@ -174,24 +168,29 @@ impl History {
         ensures slices { OnOk result (vec_len self.new.slices ≡ max (vec_len self.old.slices) (steps / spacing)) }
     {
         let wanted = steps / SPACING;
-        let slices = self.slices.len();
-        if wanted <= slices as u64 {
+        let kept = self.slices.len();
+        if wanted <= kept as u64 {
             return Ok(());
         }
-        let (cpu, mut memory) = self.at_end_of(slices)?;
-        let mut before = Vec::from_slice(self.heap, &memory)?;
-        self.keep_until(wanted, cpu, &mut memory, &mut before, watch)
+        let mut state = self.at_end_of(kept)?;
+        for slice in kept as u64..wanted {
+            self.keep_next(&mut state)?;
+            watch.done((slice + 1) * SPACING);
+        }
+        Ok(())
     }
 
     // The state after so many steps of the program: from the last slice before it that is kept.
+    #[tactic(auto, using(machine::proofs::Runs::run_add))]
     pub fn state_at(&self, steps: u64) -> Result<(Cpu, Vec<u32>), AllocError>
         ensures size { IfOk result (λ s. vec_len s.1 ≡ 65536) }
         ensures state { IfOk result (λ s. record { cpu = s.0; memory = s.1.items } ≡ runs steps (start self.now.program.items)) }
     {
         let slices = (steps / SPACING).min(self.slices.len() as u64);
-        let (cpu, mut memory) = self.at_end_of(slices as usize)?;
-        let last = run_on(&mut memory, cpu, steps - slices * SPACING);
-        Ok((last, memory))
+        let mut state = self.at_end_of(slices as usize)?;
+        state.run_on(steps - slices * SPACING);
+        let Snapshot { cpu, memory } = state;
+        Ok((cpu, memory))
     }
 
     // The digest of the state after so many steps.

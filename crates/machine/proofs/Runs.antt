@@ -1,5 +1,5 @@
 -- Runs step by step.
-use Rattle.std.proofs.Common.{◌≡◌, ℕ, zero, suc, ◌+◌, ◌-◌, ◌<◌, ◌≤◌, refl, ap, ◌∙◌, suc-add, zero-add, arith}
+use Rattle.std.proofs.Common.{◌≡◌, ℕ, zero, suc, ◌+◌, ◌-◌, ◌<◌, ◌≤◌, sym, refl, ap, ◌∙◌, suc-add, zero-add, arith}
 use Rattle.machine.specs.declared.Instruction.TheVariants.{Halt}
 use Rattle.machine.specs.Machine.{State, decode, fetch, step, run}
 
@@ -25,11 +25,11 @@ pub run_done : (n i : ℕ) (s : State) → n ≤ i → run (n - i) s ≡ s
 unfolding run
 run_done n i s l = let e : n - i ≡ 0 = omega arith in ap (λ k. run k s) e
 
-pub run_add : (a b : ℕ) (s : State) → run (a + b) s ≡ run b (run a s)
+pub run_add : (a b : ℕ) (s : State) → run b (run a s) ≡ run (a + b) s
 unfolding run
 run_add zero b s = rw zero-add
 run_add (suc a) b s = rw suc-add (run_add a b (step s))
 
 -- k steps more
 pub run_some : (n i k : ℕ) (s : State) → i + k ≤ n → run (n - i) s ≡ run (n - (i + k)) (run k s)
-run_some n i k s l = let e : n - i ≡ k + (n - (i + k)) = omega arith in ap (λ j. run j s) e ∙ run_add k (n - (i + k)) s
+run_some n i k s l = let e : n - i ≡ k + (n - (i + k)) = omega arith in ap (λ j. run j s) e ∙ sym (run_add k (n - (i + k)) s)

@@ -11,8 +11,11 @@ use merkle::{Digest, Digester, memory_digest, state_digest};
 // How many words a memory has.
 pub const WORDS: usize = 65536;
 
+// A memory of that size; at the public calls it is a lent slice.
+type Memory = [u32; WORDS];
+
 // An instruction with its place.
-#[derive(Clone, Copy)]
+#[derive(Debug, Clone, Copy, PartialEq, Eq)]
 pub enum Instruction {
     Load(u16),
     Store(u16),
@@ -25,7 +28,7 @@ pub enum Instruction {
 }
 
 // The place of the next instruction and the register.
-#[derive(Clone, Copy)]
+#[derive(Debug, Default, Clone, Copy, PartialEq, Eq)]
 pub struct Cpu {
     pub place: u16,
     pub register: u32,
@@ -63,6 +66,7 @@ impl Instruction {
     }
 
     // A word as an instruction.
+    #[tactic(auto, unfolding(crate::specs::Machine::decode))]
     pub fn decode(word: u32) -> Instruction
         ensures { result ≡ decoded word }
     {
@@ -72,14 +76,10 @@ impl Instruction {
 
 impl Cpu {
     // Whether the next instruction halts the machine.
-    fn has_halted(&self, memory: &[u32]) -> bool
-        requires { length memory.now ≡ 65536 }
+    fn has_halted(&self, memory: &Memory) -> bool
         ensures { Decides result (decoded (slice_index memory.now self.now.place) ≡ Halt) }
     {
-        matches!(
-            Instruction::decode(memory[self.place as usize]),
-            Instruction::Halt
-        )
+        Instruction::decode(memory[usize::from(self.place)]) == Instruction::Halt
     }
 
     // What an instruction makes of place and register; `operand` is the word at its place.
@@ -114,12 +114,12 @@ impl Cpu {
     }
 
     // One step.
-    fn step(&mut self, memory: &mut [u32])
-        requires { length memory.old ≡ 65536 }
+    #[tactic(auto, unfolding(crate::specs::Machine::step))]
+    fn step(&mut self, memory: &mut Memory)
         ensures { record { cpu = self.new; memory = memory.new } ≡ stepped (record { cpu = self.old; memory = memory.old }) }
     {
-        let word = memory[self.place as usize];
-        let place = place_of(word) as usize;
+        let word = memory[usize::from(self.place)];
+        let place = usize::from(place_of(word));
         let operand = memory[place];
         let instruction = Instruction::decode(word);
         if instruction.stores() {
@@ -130,8 +130,8 @@ impl Cpu {
 }
 
 // The state after so many steps; a machine that has halted is not run on.
-fn run_slice(memory: &mut [u32], cpu: Cpu, steps: u64) -> Cpu
-    requires { length memory.old ≡ 65536 }
+#[tactic(auto, using(crate::proofs::Runs::halt_run, crate::proofs::Runs::run_more, crate::proofs::Runs::run_done))]
+fn run_slice(memory: &mut Memory, cpu: Cpu, steps: u64) -> Cpu
     ensures { record { cpu = result; memory = memory.new } ≡ runs steps (record { cpu = cpu; memory = memory.old }) }
 {
     let mut cpu = cpu;
@@ -145,6 +145,7 @@ fn run_slice(memory: &mut [u32], cpu: Cpu, steps: u64) -> Cpu
 }
 
 // Whoever is told, now and then, how many steps of a long run are done.
+// A trait and no closure: a call of a closure would bring a `requires` to each public function that takes one.
 pub trait Watch {
     fn done(&mut self, steps: u64);
 }
@@ -158,29 +159,28 @@ impl Watch for Unwatched {
 }
 
 // After so many steps a run tells whoever watches it.
-const SLICE: u64 = 1 << 24;
+const SLICE: usize = 1 << 24;
 
 // Runs so many steps. A memory of another size than 65,536 words is refused and left as it is.
+#[tactic(auto, using(crate::proofs::Runs::run_none, crate::proofs::Runs::run_some, crate::proofs::Runs::run_done))]
 pub fn run<W: Watch>(memory: &mut [u32], cpu: Cpu, steps: u64, watch: &mut W) -> Option<Cpu>
     ensures cpu { result ≡ (if eqb (length memory.old) 65536 then Some (runs steps (record { cpu = cpu; memory = memory.old })).cpu else None) }
     ensures memory { memory.new ≡ (if eqb (length memory.old) 65536 then (runs steps (record { cpu = cpu; memory = memory.old })).memory else memory.old) }
 {
-    if memory.len() != WORDS {
+    let Some(memory) = memory.as_mut_array::<WORDS>() else {
         return None;
-    }
+    };
     let mut cpu = cpu;
-    let mut done = 0;
-    while done < steps {
-        let slice = SLICE.min(steps - done);
-        let next = run_slice(memory, cpu, slice);
-        cpu = next;
-        done += slice;
-        watch.done(done);
+    for done in (0..steps).step_by(SLICE) {
+        let slice = (steps - done).min(SLICE as u64);
+        cpu = run_slice(memory, cpu, slice);
+        watch.done(done + slice);
     }
     Some(cpu)
 }
 
 // The digest of a state.
+#[tactic(auto, using(merkle::proofs::Seen::seen_last))]
 pub fn digest<D: Digester>(digester: &mut D, cpu: Cpu, memory: &[u32]) -> Digest
     ensures value { result ≡ digests D.hash (record { cpu = cpu; memory = memory.now }) }
     ensures seen { D.seen digester.new ≡ seen_all D.adds (D.seen digester.old) (digest_preimages D.hash (record { cpu = cpu; memory = memory.now })) }
