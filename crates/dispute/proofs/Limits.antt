@@ -7,13 +7,11 @@ use Rattle.system.specs.System.{System, Lawful, run, digest_at}
 use Rattle.witness.specs.declared.Party.{Party}
 use Rattle.witness.specs.declared.Party.TheVariants.{Claimer, Doubter}
 use Rattle.dispute.specs.declared.Case.{Case}
-use Rattle.dispute.specs.declared.Answer.{Answer}
-use Rattle.dispute.specs.declared.Answer.TheVariants.{Taken}
 use Rattle.dispute.specs.declared.Message.TheVariants.{Doubt, Right, Wrong}
 use Rattle.dispute.specs.declared.Dispute.{Dispute}
 use Rattle.dispute.specs.declared.Phase.{Phase}
 use Rattle.dispute.specs.declared.Phase.TheVariants.{Claiming, Doubting, Bisecting, Answering, Proving, Over}
-use Rattle.dispute.specs.Referee.{Protocol, Event, sent, may_move, late, opening, receive, take, next, play, count}
+use Rattle.dispute.specs.Referee.{Answer, Taken, Protocol, Event, sent, may_move, late, opening, receive, take, next, play, count}
 use Rattle.dispute.specs.Bisection.{turn, move, Claims, reach, InReach, disputing, whole, first_half, second_half, MessageOf, decode, encode, Sendable, bisection, game, honest_claimer, honest_doubter}
 use Rattle.dispute.specs.Promise.{AnySystem, ClaimerWins, DoubterWins, Promised, RightOneWins, Keeps, ClaimerCan, DoubterCan, Ends, EndsAll, Few, FewInAll, InRange, StaysInRange}
 use Rattle.dispute.proofs.Basics.{some_none, none_some, valid_run}

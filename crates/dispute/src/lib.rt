@@ -62,7 +62,7 @@ pub struct Case<P> {
 }
 
 // Why something is turned away.
-#[derive(Clone, Copy)]
+#[derive(Clone, Copy, Debug, PartialEq, Eq)]
 pub enum Refusal {
     Unreadable,
     OutOfTurn,
@@ -70,11 +70,8 @@ pub enum Refusal {
     WrongDay,
 }
 
-#[derive(Clone, Copy)]
-pub enum Answer {
-    Taken,
-    Refused(Refusal),
-}
+// Something is taken, or turned away.
+pub type Answer = Result<(), Refusal>;
 
 impl Refusal {
     // The number by which it is answered.
@@ -107,14 +104,14 @@ impl Case<Phase> {
         ensures { (h : Hash) (g : Bytes) → result ≡ take (bisection (machine h) g) self (begins day) }
     {
         if day == self.day {
-            return (self, Answer::Taken);
+            return (self, Ok(()));
         }
         if day == 0 || day - 1 != self.day {
-            return (self, Answer::Refused(Refusal::WrongDay));
+            return (self, Err(Refusal::WrongDay));
         }
         let phase = self.phase.at_dawn(self.since, day);
         let since = self.since;
-        (Case { day, since, phase }, Answer::Taken)
+        (Case { day, since, phase }, Ok(()))
     }
 }
 

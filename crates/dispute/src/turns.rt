@@ -77,10 +77,7 @@ impl Phase {
     pub(crate) fn is_turn_of(&self, party: Party) -> bool
         ensures { result ≡ may_move (turn_of self.now) party }
     {
-        match (self.turn(), party) {
-            (Some(Party::Claimer), Party::Claimer) | (Some(Party::Doubter), Party::Doubter) => true,
-            _ => false,
-        }
+        self.turn() == Some(party)
     }
 
     // The phase after a turn that ran out: whoever let it run out has lost.
