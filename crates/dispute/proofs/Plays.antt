@@ -52,8 +52,8 @@ module _ (P : Protocol) where
           (λ t. settled m (P.move c.phase m) e (may_move_lem (P.turn c.phase) w t) refl) (λ _. same OutOfTurn)
 
   pub refuses : Refuses P
-  refuses c (day d) k = on_day c d (λ r. r.1 ≡ Err k → r.0 ≡ c) (λ _. refl) (λ _ e. let z : ◌≡◌ {A = ℕ} 0 1 = cc in absurd (omega arith)) (λ _. refl)
-  refuses c (sent w b) k = on_sent c w b (λ r. r.1 ≡ Err k → r.0 ≡ c) (λ _ _. refl) (λ m f e t v x. let z : ◌≡◌ {A = ℕ} 0 1 = cc in absurd (omega arith))
+  refuses c (day d) k = on_day c d (λ r. r.1 ≡ Err k → r.0 ≡ c) (λ _. refl) (λ _ e. cc) (λ _. refl)
+  refuses c (sent w b) k = on_sent c w b (λ r. r.1 ≡ Err k → r.0 ≡ c) (λ _ _. refl) (λ m f e t v x. cc)
 
   pub days : Days P
   unfolding take

@@ -100,13 +100,14 @@ impl Case<Phase> {
     }
 
     // A day begins: the one that is on again, or the next.
+    #[tactic(auto, unfolding(crate::specs::Referee::take))]
     pub fn day(self, day: u64) -> (Case<Phase>, Answer)
         ensures { (h : Hash) (g : Bytes) → result ≡ take (bisection (machine h) g) self (begins day) }
     {
         if day == self.day {
             return (self, Ok(()));
         }
-        if day == 0 || day - 1 != self.day {
+        if day.checked_sub(1) != Some(self.day) {
             return (self, Err(Refusal::WrongDay));
         }
         let phase = self.phase.at_dawn(self.since, day);

@@ -113,6 +113,7 @@ impl Phase {
     }
 
     // The phase after a message in its turn; none where the turn is not for it.
+    #[tactic(auto, unfolding(merkle::specs::Seen::seen_all))]
     pub(crate) fn after<D: Digester>(
         self,
         digester: &mut D,
