@@ -1,7 +1,7 @@
 // The dispute: messages, turns and days, and the referee's answers.
 #![tactic(auto)]
 
-ghost use Rattle.std.specs.Prelude.{◌≡◌};
+ghost use Rattle.std.specs.Prelude.{◌≡◌, Some, decimal};
 ghost use Rattle.merkle.specs.Bytes.{Bytes, Hash};
 ghost use Rattle.witness.specs.Laws.{machine};
 ghost use Rattle.dispute.specs.Referee.{refusal_number, opening, take, day as begins};
@@ -14,6 +14,7 @@ mod turns;
 
 use merkle::Digest;
 pub use referee::Referee;
+use std::fmt;
 use witness::Party;
 
 // What the parties say; W is what is shown of a step.
@@ -72,6 +73,15 @@ pub enum Refusal {
 
 // Something is taken, or turned away.
 pub type Answer = Result<(), Refusal>;
+
+// A refusal is printed by its number.
+impl fmt::Display for Refusal {
+    ghost output = { λ refusal. Some (decimal (refusal_number refusal)) };
+
+    fn fmt<W: fmt::Write>(&self, f: &mut fmt::Formatter<W>) -> fmt::Result {
+        write!(f, "{}", self.number())
+    }
+}
 
 impl Refusal {
     // The number by which it is answered.
