@@ -1,10 +1,13 @@
 -- Words at the front of a line, and the CR at its end.
-use Rattle.std.proofs.Common.{◌≡◌, ℕ, zero, suc, length, get_or, ◌+◌, ◌-◌, ◌/◌, ◌%◌, ◌^◌, ◌<◌, Bool, true, false, ◌&&◌, eqb, ltb, [], ◌∷◌, ◌++◌, Some, None, decimal, Option, sym, refl, ap, ◌∙◌, append-nil, arith, Bor, MatchOption}
+use Rattle.std.proofs.Common.{take, drop, ◌≡◌, ℕ, zero, suc, length, get_or, ◌+◌, ◌-◌, ◌/◌, ◌%◌, ◌^◌, ◌<◌, Bool, true, false, ◌&&◌, eqb, ltb, [], ◌∷◌, ◌++◌, Some, None, decimal, Option, sym, refl, ap, ◌∙◌, append-nil, arith, Bor, MatchOption}
 use Rattle.std.specs.Str.Lines.{strip_carriage_return}
 use Rattle.std.specs.Option.{option_map}
 use Rattle.std.proofs.lemmas.Fmt.{decimal_by_steps}
 use Rattle.std.proofs.lemmas.Bool.{and_parts, and_from, cond_both, cond-true, cond-false, eqb-true, eq-eqb, ne_eqb, ltb-true, lt-ltb}
 use Rattle.std.proofs.lemmas.Grind.{common_steps}
+use Rattle.std.specs.Str.{bytes_eq}
+use Rattle.std.proofs.lemmas.Slice.Eq.{strip_prefix_is}
+use Rattle.std.proofs.lemmas.Bool.Decides.{Decides-eqb}
 use Rattle.merkle.specs.Bytes.{Bytes}
 use Rattle.text.specs.Text.{hex_digit, hexadecimal}
 use Rattle.record.specs.Record.{after, ended}
@@ -24,9 +27,11 @@ after_none (c ∷ w) (d ∷ l) never =
     (λ same. after_none w l (λ rest is. let e = eqb-true c d same in never rest (ap (λ x. x ∷ l) (sym e) ∙ ap (λ x. c ∷ x) is)))
     (λ _. refl)
 
-pub after_is : (w l : Bytes) (r : Option (Bor Bytes)) → MatchOption r ((rest : Bytes) → l ≡ w ++ rest → ⊥) (λ x. l ≡ w ++ x.now) → option_map (λ x. x.now) r ≡ after w l
-after_is w l None h = sym (after_none w l h)
-after_is w l (Some x) h = sym (ap (after w) h ∙ after_word w x.now)
+-- what `strip_prefix` says
+pub after_is : (w l : Bytes) (r : Option (Bor Bytes)) →
+    MatchOption r (bytes_eq (take (length w) l) w ≡ false) (λ x. (bytes_eq (take (length w) l) w ≡ true) × (x.now ≡ drop (length w) l) × (length x.now + length w ≡ length l)) → option_map (λ x. x.now) r ≡ after w l
+after_is w l None h = sym (after_none w l (strip_prefix_is Decides-eqb l w None h))
+after_is w l (Some x) h = sym (ap (after w) (strip_prefix_is Decides-eqb l w (Some x) h) ∙ after_word w x.now)
 
 -- ---- the CR
 pub cr_goes : (l : Bytes) → strip_carriage_return (l ++ 13 ∷ []) ≡ l

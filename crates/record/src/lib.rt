@@ -8,11 +8,13 @@ ghost use Rattle.merkle.specs.Bytes.{Bytes};
 ghost use Rattle.witness.specs.Laws.{machine};
 ghost use Rattle.dispute.specs.Bisection.{bisection};
 ghost use Rattle.record.specs.Held.{entry_at, opening_at, answers_so};
-ghost use Rattle.record.specs.Record.{entered, KeepsAt, after as following, message, day as day_in, entry_in, held, opening_in, standing as stands_so, answer_line, SentIsRead, DayIsRead, OpeningIsRead};
+ghost use Rattle.record.specs.Record.{entered, KeepsAt, message, day as day_in, entry_in, held, opening_in, standing as stands_so, answer_line, SentIsRead, DayIsRead, OpeningIsRead};
 
+mod input;
 mod line;
 
 use dispute::{Answer, Phase, Referee, Refusal};
+pub use input::read_line;
 pub use line::Line;
 use merkle::{Digest, Digester, same};
 use std::alloc::{AllocError, Global};
@@ -35,20 +37,11 @@ fn without_cr(line: &[u8]) -> &[u8]
     line.strip_suffix(b"\r").unwrap_or(line)
 }
 
-// What follows a word at the front of a line.
-fn after<'a>(word: &[u8], line: &'a [u8]) -> Option<&'a [u8]>
-    ensures { option_map (λ x. x.now) result ≡ following word.now line.now }
-{
-    line.strip_prefix(word)
-}
-
 fn sent(heap: Global, party: Party, digits: &[u8]) -> Result<Entry<Vec<u8>>, AllocError>
     ensures { IfOk result (λ e. held e ≡ message party digits.now) }
 {
-    match hex::decode(heap, digits)? {
-        Some(bytes) => Ok(Entry::Sent(party, bytes)),
-        None => Ok(Entry::Faulty(Refusal::Unreadable)),
-    }
+    let bytes = hex::decode(heap, digits)?;
+    Ok(bytes.map_or(Entry::Faulty(Refusal::Unreadable), |bytes| Entry::Sent(party, bytes)))
 }
 
 fn day(digits: &[u8]) -> Entry<Vec<u8>>
@@ -62,13 +55,13 @@ fn parse(heap: Global, line: &[u8]) -> Result<Entry<Vec<u8>>, AllocError>
     ensures { IfOk result (λ e. held e ≡ entry_in line.now) }
 {
     let line = without_cr(line);
-    if let Some(digits) = after(b"claimer ", line) {
+    if let Some(digits) = line.strip_prefix(b"claimer ") {
         return sent(heap, Party::Claimer, digits);
     }
-    if let Some(digits) = after(b"doubter ", line) {
+    if let Some(digits) = line.strip_prefix(b"doubter ") {
         return sent(heap, Party::Doubter, digits);
     }
-    if let Some(digits) = after(b"day ", line) {
+    if let Some(digits) = line.strip_prefix(b"day ") {
         return Ok(day(digits));
     }
     Ok(Entry::Faulty(Refusal::Unreadable))
@@ -78,7 +71,7 @@ fn parse(heap: Global, line: &[u8]) -> Result<Entry<Vec<u8>>, AllocError>
 fn opening_in(heap: Global, line: &[u8]) -> Result<Option<Digest>, AllocError>
     ensures { IfOk result (λ o. o ≡ opening_in line.now) }
 {
-    let Some(digits) = after(b"case ", without_cr(line)) else {
+    let Some(digits) = without_cr(line).strip_prefix(b"case ") else {
         return Ok(None);
     };
     let Some(bytes) = hex::decode(heap, digits)? else {
