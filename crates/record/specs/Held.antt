@@ -1,5 +1,6 @@
 -- What is held of a line as it comes in: its bytes, or None once they are more than the longest line has.
-use Rattle.std.specs.Prelude.{◌≡◌, ℕ, Bool, false, cond, [], ◌∷◌, ◌++◌, length, Some, None, Option, nat_le}
+use Rattle.std.specs.Prelude.{◌≡◌, ℕ, Bool, false, cond, [], ◌∷◌, ◌++◌, length, Some, None, Option, nat_le, nat_lt}
+use Rattle.std.specs.Io.BufRead.{drop_through, first_piece}
 use Rattle.std.specs.Str.Lines.{strip_carriage_return}
 use Rattle.merkle.specs.Bytes.{Bytes}
 use Rattle.merkle.specs.Collision.{eq_bytes}
@@ -26,6 +27,12 @@ Holds l bs = l ≡ bounded bs
 -- With a byte more.
 abbrev pub pushed : Option Bytes → ℕ → Option Bytes
 pushed l b = or_else l (λ bs. bounded (bs ++ b ∷ [])) None
+
+-- What is read of an input with the bytes xs, of which then those in `rest` are left: its first line, if there is one.
+pub record ReadsLine (xs : Bytes) (rest : Option Bytes) (more : Bool) (l : Option Bytes) : Type 0 where
+  pub there : more ≡ nat_lt 0 (length xs)
+  pub line : l ≡ bounded (first_piece 10 xs)
+  pub left : rest ≡ Some (drop_through 10 xs)
 
 -- The entry in a line; one that is too long is no message.
 abbrev pub entry_at : Option Bytes → Entry Bytes

@@ -41,7 +41,10 @@ fn sent(heap: Global, party: Party, digits: &[u8]) -> Result<Entry<Vec<u8>>, All
     ensures { IfOk result (λ e. held e ≡ message party digits.now) }
 {
     let bytes = hex::decode(heap, digits)?;
-    Ok(bytes.map_or(Entry::Faulty(Refusal::Unreadable), |bytes| Entry::Sent(party, bytes)))
+    Ok(bytes.map_or(
+        Entry::Faulty(Refusal::Unreadable),
+        |bytes| Entry::Sent(party, bytes),
+    ))
 }
 
 fn day(digits: &[u8]) -> Entry<Vec<u8>>
