@@ -1,5 +1,5 @@
 -- Rows of worked cases on real SHA-256, and what each says.
-use Rattle.std.specs.Prelude.{◌≡◌, ℕ, zero, suc, ◌-◌, ◌/◌, ◌%◌, ◌^◌, Bool, List, [], ◌∷◌, ◌++◌, length, replicate, slice_index}
+use Rattle.std.specs.Prelude.{◌≡◌, ℕ, zero, suc, ◌-◌, ◌/◌, ◌%◌, ◌^◌, Bool, List, [], ◌∷◌, ◌++◌, length, replicate, Ok, Err, slice_index}
 use Rattle.sha256.specs.Sha256.{sha256}
 use Rattle.merkle.specs.Bytes.{Bytes}
 use Rattle.merkle.specs.Collision.{eq_bytes}
@@ -8,10 +8,8 @@ use Rattle.system.specs.System.{System, run, digest_at}
 use Rattle.witness.specs.declared.Witness.{Witness}
 use Rattle.witness.specs.Witness.{state_fits, instruction_fits, operand_fits, next_part}
 use Rattle.witness.specs.Laws.{machine}
-use Rattle.dispute.specs.declared.Answer.{Answer}
-use Rattle.dispute.specs.declared.Answer.TheVariants.{Taken, Refused}
 use Rattle.dispute.specs.declared.Phase.{Phase}
-use Rattle.dispute.specs.Referee.{Protocol, CaseOf, Event, opening, take, next, refusal_number}
+use Rattle.dispute.specs.Referee.{Answer, Protocol, CaseOf, Event, opening, take, next, refusal_number}
 use Rattle.dispute.specs.Bisection.{bisection}
 
 -- The machine with SHA-256.
@@ -46,8 +44,8 @@ pub data Row : Type 0 where
 
 -- 0 for what is taken, and the number of a refusal.
 abbrev pub answer_number : Answer → ℕ
-answer_number Taken = 0
-answer_number (Refused k) = refusal_number k
+answer_number (Ok u) = 0
+answer_number (Err k) = refusal_number k
 
 -- The answers and the phase at the end are these.
 unfoldable pub Goes : (P : Protocol) → CaseOf P → Exchange → P.Phase → Type 0

@@ -1,12 +1,6 @@
--- Options, and runs of a system.
-use Rattle.std.proofs.Common.{◌≡◌, ℕ, zero, suc, ◌+◌, ◌^◌, Some, None, sym, refl, ap, add-one, arith}
+-- Runs of a system.
+use Rattle.std.proofs.Common.{◌≡◌, ℕ, zero, suc, ◌+◌, ◌^◌, refl, ap, add-one, arith}
 use Rattle.system.specs.System.{System, Lawful, run, digest_at}
-
-pub some_none : {A M : Type 0} {m : M} → Some m ≡ None → A
-some_none {m} e = let z : ◌≡◌ {A = ℕ} 0 1 = cc in absurd (omega arith)
-
-pub none_some : {A M : Type 0} {m : M} → None ≡ Some m → A
-none_some {m} e = some_none (sym e)
 
 module _ (S : System) where
   run_suc : (n : ℕ) (s : S.State) → run S (suc n) s ≡ S.step (run S n s)

@@ -1,5 +1,5 @@
 -- The promise of one call, from its equation with the rules.
-use Rattle.std.proofs.Common.{◌≡◌, ℕ, ◌≤◌, true, false, List, [], length, IfSome, Some, None, Option, sym, ap, ◌∙◌, subst, arith}
+use Rattle.std.proofs.Common.{◌≡◌, ℕ, ◌≤◌, true, false, List, [], length, IfSome, Some, None, Err, Option, sym, ap, ◌∙◌, subst, arith}
 use Rattle.merkle.specs.Bytes.{Bytes, Hash, Whole}
 use Rattle.merkle.specs.Seen.{seen_all}
 use Rattle.witness.specs.declared.Party.{Party}
@@ -9,10 +9,8 @@ use Rattle.witness.proofs.Instances.{machine_lawful}
 use Rattle.dispute.specs.declared.Case.{Case}
 use Rattle.dispute.specs.declared.Message.{Message}
 use Rattle.dispute.specs.declared.Refusal.TheVariants.{Unreadable, OutOfTurn}
-use Rattle.dispute.specs.declared.Answer.{Answer}
-use Rattle.dispute.specs.declared.Answer.TheVariants.{Refused}
 use Rattle.dispute.specs.declared.Phase.{Phase}
-use Rattle.dispute.specs.Referee.{Event, day, sent, may_move, settle, take}
+use Rattle.dispute.specs.Referee.{Answer, Event, day, sent, may_move, settle, take}
 use Rattle.dispute.specs.Bisection.{turn, InReach, decode, move, bisection}
 use Rattle.dispute.specs.Work.{step_in, step_limit, move_strings, strings, limit}
 use Rattle.dispute.specs.Promise.{Keeps}
@@ -50,14 +48,14 @@ module _ (h : Hash) (whole : Whole h) {S : Type 0} (adds : S → Bytes → S) (s
   received c' a is seen few =
       record { value = is; promise = kept_by c (sent w b) c' a h whole is; seen = seen; few = few; rests = λ k g agree. is g ∙ take_rests h k g c w b agree }
 
-  pub not_read : t ≡ s → decode (machine h) b ≡ None → Received c (Refused Unreadable)
+  pub not_read : t ≡ s → decode (machine h) b ≡ None → Received c (Err Unreadable)
   unfolding seen_all
-  not_read same e = received c (Refused Unreadable) (λ g. sent_unread (bisection (machine h) g) c w b e) (rw e same) (rw e (omega arith))
+  not_read same e = received c (Err Unreadable) (λ g. sent_unread (bisection (machine h) g) c w b e) (rw e same) (rw e (omega arith))
 
   module _ (m : Message Witness) (read : decode (machine h) b ≡ Some m) where
-    pub not_turn : t ≡ s → may_move (turn c.phase) w ≡ false → Received c (Refused OutOfTurn)
+    pub not_turn : t ≡ s → may_move (turn c.phase) w ≡ false → Received c (Err OutOfTurn)
     unfolding seen_all
-    not_turn same f = received c (Refused OutOfTurn) (λ g. sent_early (bisection (machine h) g) c w b m read f) (rw (read, f) same) (rw (read, f) (omega arith))
+    not_turn same f = received c (Err OutOfTurn) (λ g. sent_early (bisection (machine h) g) c w b m read f) (rw (read, f) same) (rw (read, f) (omega arith))
 
     pub in_turn : may_move (turn c.phase) w ≡ true → t ≡ seen_all adds s (move_strings h c.phase m) → length (move_strings h c.phase m) ≤ step_limit (step_in m) →
         (r : Option Phase) → r ≡ move (machine h) c.phase m → (c' : Case Phase) (a : Answer) → ((g : Bytes) → (c', a) ≡ settle (bisection (machine h) g) c r) → Received c' a

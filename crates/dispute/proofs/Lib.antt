@@ -4,7 +4,6 @@ pub mod Moves
 pub mod Safe
 pub mod Limits
 mod Dawns
-mod Halvings
 pub mod Kept
 mod Letters
 mod Rested

@@ -1,22 +1,19 @@
 -- The halving game ends, takes few messages and stays within the run; and its rules can be kept.
-use Rattle.std.proofs.Common.{◌≡◌, ℕ, zero, suc, ◌+◌, ◌*◌, ◌^◌, ◌≤◌, Bool, true, false, cond, leb, List, [], ◌∷◌, ◌++◌, Some, None, Option, sym, refl, ap, ◌∙◌, subst, arith, pow_mono}
-use Rattle.std.proofs.lemmas.Bool.{leb-true, leb-false}
+use Rattle.std.proofs.Common.{◌≡◌, ℕ, zero, suc, ◌+◌, ◌*◌, ◌^◌, ◌≤◌, Bool, true, false, cond, List, [], ◌∷◌, ◌++◌, Some, None, Option, sym, refl, ap, ◌∙◌, subst, arith, pow_mono}
 use Rattle.merkle.specs.Bytes.{Bytes}
 use Rattle.merkle.specs.Collision.{eq_bytes}
 use Rattle.system.specs.System.{System, Lawful, run, digest_at}
 use Rattle.witness.specs.declared.Party.{Party}
 use Rattle.witness.specs.declared.Party.TheVariants.{Claimer, Doubter}
 use Rattle.dispute.specs.declared.Case.{Case}
-use Rattle.dispute.specs.declared.Answer.{Answer}
-use Rattle.dispute.specs.declared.Answer.TheVariants.{Taken}
 use Rattle.dispute.specs.declared.Message.TheVariants.{Doubt, Right, Wrong}
 use Rattle.dispute.specs.declared.Dispute.{Dispute}
 use Rattle.dispute.specs.declared.Phase.{Phase}
 use Rattle.dispute.specs.declared.Phase.TheVariants.{Claiming, Doubting, Bisecting, Answering, Proving, Over}
-use Rattle.dispute.specs.Referee.{Protocol, Event, sent, may_move, late, opening, receive, take, next, play, count}
+use Rattle.dispute.specs.Referee.{Answer, Taken, Protocol, Event, sent, may_move, late, opening, receive, take, next, play, count}
 use Rattle.dispute.specs.Bisection.{turn, move, Claims, reach, InReach, disputing, whole, first_half, second_half, MessageOf, decode, encode, Sendable, bisection, game, honest_claimer, honest_doubter}
 use Rattle.dispute.specs.Promise.{AnySystem, ClaimerWins, DoubterWins, Promised, RightOneWins, Keeps, ClaimerCan, DoubterCan, Ends, EndsAll, Few, FewInAll, InRange, StaysInRange}
-use Rattle.dispute.proofs.Basics.{some_none, none_some, valid_run}
+use Rattle.dispute.proofs.Basics.{valid_run}
 use Rattle.dispute.proofs.Plays.{invariant, invariant_next, IsOver, Measure, ends_by, same_self, counts_one, count_step, count_play, count_from, play_last, not_doubter, not_claimer}
 use Rattle.dispute.proofs.Dawns.{sent_settled}
 use Rattle.dispute.proofs.Safe.{claimer_safe, doubter_safe}
@@ -59,11 +56,11 @@ module _ (S : System) (g : Bytes) where
 
   no_turn : (f : Phase) → (bisection S g).turn f ≡ None → IsOver (bisection S g) f
   unfolding IsOver
-  no_turn (Claiming x) e = some_none e
-  no_turn (Doubting y n x) e = some_none e
-  no_turn (Bisecting n p) e = some_none e
-  no_turn (Answering n p x) e = some_none e
-  no_turn (Proving p) e = some_none e
+  no_turn (Claiming x) e = cc
+  no_turn (Doubting y n x) e = cc
+  no_turn (Bisecting n p) e = cc
+  no_turn (Answering n p x) e = cc
+  no_turn (Proving p) e = cc
   no_turn (Over w) e = (w, refl)
 
   measure : Measure (bisection S g) left
@@ -116,11 +113,7 @@ few_in_all S g n es o = let z = count_from (bisection S g) left (measure S g) (C
 
 -- a run within 2 ^ 32 steps has an n of at most 32
 small_exponent : (n : ℕ) → 2 ^ n ≤ 4294967296 → n ≤ 32
-small_exponent n l = go (leb n 32) refl
-  where
-    go : (t : Bool) → leb n 32 ≡ t → n ≤ 32
-    go true e = leb-true n 32 e
-    go false e = let big : 33 ≤ n = leb-false n 32 e in let z = pow_mono {i = 33} {j = n} big in absurd (omega arith)
+small_exponent n l = grind (arith, pow_mono {i = 33} {j = n})
 
 in_range : (f : Phase) → InReach f → InRange f
 in_range (Claiming x) l = tt
@@ -176,28 +169,28 @@ module _ (S : System) (g : Bytes) (day since : ℕ) where
 
   claimer_at : Lawful S → (s : S.State) → S.Valid s → (n : ℕ) → 1 ≤ n → n ≤ 32 → (f : Phase) (m : MessageOf S) → honest_claimer S s n f ≡ Some m → IsTaken f Claimer m
   claimer_at law s v n lo hi (Claiming y) m e = sends (Claiming y) Claimer m _ e (lo, hi, law.digest_long _) refl
-  claimer_at law s v n lo hi (Doubting y k x) m e = none_some e
+  claimer_at law s v n lo hi (Doubting y k x) m e = cc
   claimer_at law s v n lo hi (Bisecting k p) m e = sends (Bisecting k p) Claimer m _ e (law.digest_long _) refl
-  claimer_at law s v n lo hi (Answering k p x) m e = none_some e
+  claimer_at law s v n lo hi (Answering k p x) m e = cc
   claimer_at law s v n lo hi (Proving p) m e =
       sends (Proving p) Claimer m _ e (law.kind_own (run S p.from s), law.legible (run S p.from s) (valid_run S law p.from s v)) refl
-  claimer_at law s v n lo hi (Over w) m e = none_some e
+  claimer_at law s v n lo hi (Over w) m e = cc
 
   doubter_at : (s : S.State) (f : Phase) (m : MessageOf S) → honest_doubter S s f ≡ Some m → IsTaken f Doubter m
-  doubter_at s (Claiming y) m e = none_some e
+  doubter_at s (Claiming y) m e = cc
   doubter_at s (Doubting y k x) m e = go (eq_bytes x (digest_at S s (2 ^ k))) e
     where
       go : (t : Bool) → cond t None (Some Doubt) ≡ Some m → IsTaken (Doubting y k x) Doubter m
-      go true e = none_some e
+      go true e = cc
       go false e = sends (Doubting y k x) Doubter m Doubt e tt refl
-  doubter_at s (Bisecting k p) m e = none_some e
+  doubter_at s (Bisecting k p) m e = cc
   doubter_at s (Answering k p x) m e = go (eq_bytes x (digest_at S s (p.from + 2 ^ k))) e
     where
       go : (t : Bool) → Some (cond t Right Wrong) ≡ Some m → IsTaken (Answering k p x) Doubter m
       go true e = sends (Answering k p x) Doubter m Right e tt refl
       go false e = sends (Answering k p x) Doubter m Wrong e tt refl
-  doubter_at s (Proving p) m e = none_some e
-  doubter_at s (Over w) m e = none_some e
+  doubter_at s (Proving p) m e = cc
+  doubter_at s (Over w) m e = cc
 
 pub claimer_can : AnySystem ClaimerCan
 claimer_can S law s v c n lo hi m e = claimer_at S (S.digest s) c.day c.since law s v n lo hi c.phase m e

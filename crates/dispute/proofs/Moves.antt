@@ -10,7 +10,6 @@ use Rattle.dispute.specs.declared.Phase.{Phase}
 use Rattle.dispute.specs.declared.Phase.TheVariants.{Claiming, Doubting, Bisecting, Answering, Proving, Over}
 use Rattle.dispute.specs.Bisection.{sized, claim_in, disputing, whole, first_half, second_half, MessageOf, body_of, decode, encode, verdict, move}
 use Rattle.dispute.specs.Promise.{Reads}
-use Rattle.dispute.proofs.Basics.{none_some}
 
 module _ (S : System) where
   pub data Move : Phase → MessageOf S → Phase → Type 0 where
@@ -63,16 +62,8 @@ module _ (S : System) where
   made f m f' e = go (move S f m) (outcome f m) e
     where
       go : (r : Option Phase) → Outcome f m r → r ≡ Some f' → Move f m f'
-      go None stays e = none_some e
+      go None stays e = cc
       go (Some f'') (moves k) e = let z : f'' ≡ f' = cc in subst (λ x. Move f m x) z k
-
-  -- and where no move is possible, the turn is not for it
-  pub stuck : (f : Phase) (m : MessageOf S) → ((f' : Phase) → Move f m f' → ⊥) → None ≡ move S f m
-  stuck f m no' = go (move S f m) (outcome f m)
-    where
-      go : (r : Option Phase) → Outcome f m r → None ≡ r
-      go None stays = refl
-      go (Some f') (moves v) = absurd (no' f' v)
 
   -- a fact of every message that is read, from the six kinds
   module _ (Q : MessageOf S → Type 0) where
@@ -81,7 +72,7 @@ module _ (S : System) where
 
     at_none : Each None
     unfolding Each
-    at_none m e = none_some e
+    at_none m e = cc
 
     at_some : (m : MessageOf S) → Q m → Each (Some m)
     unfolding Each

@@ -1,14 +1,12 @@
 -- The referee over any protocol: what one event can do, invariants of whole plays, followed strategies, and ending by a measure.
-use Rattle.std.proofs.Common.{◌≡◌, ℕ, ◌+◌, ◌≤◌, true, cond, eqb, ◌⊎◌, List, [], ◌∷◌, ◌++◌, Some, None, Option, sym, refl, ap, ◌∙◌, inl, inr, arith}
+use Rattle.std.proofs.Common.{◌≡◌, ℕ, ◌+◌, ◌≤◌, true, cond, eqb, ◌⊎◌, List, [], ◌∷◌, ◌++◌, Some, None, Ok, Err, Option, sym, refl, ap, ◌∙◌, inl, inr, arith}
 use Rattle.std.proofs.lemmas.Bool.{eqb-true, eq-eqb, ne_eqb, le-leb, lt-leb, leb-false, cases_Bool, cond_both}
 use Rattle.merkle.specs.Bytes.{Bytes}
 use Rattle.witness.specs.declared.Party.{Party}
 use Rattle.witness.specs.declared.Party.TheVariants.{Claimer, Doubter}
 use Rattle.dispute.specs.declared.Refusal.{Refusal}
 use Rattle.dispute.specs.declared.Refusal.TheVariants.{Unreadable, OutOfTurn, OutOfPlace, WrongDay}
-use Rattle.dispute.specs.declared.Answer.{Answer}
-use Rattle.dispute.specs.declared.Answer.TheVariants.{Taken, Refused}
-use Rattle.dispute.specs.Referee.{opponent, same_party, Protocol, CaseOf, Event, day, sent, may_move, counts, expires, forfeit, late, next_day, moved, settle, receive, take, next, play, count, Strategy, Obeys, Follows, Occurs, here, there}
+use Rattle.dispute.specs.Referee.{Answer, Taken, opponent, same_party, Protocol, CaseOf, Event, day, sent, may_move, counts, expires, forfeit, late, next_day, moved, settle, receive, take, next, play, count, Strategy, Obeys, Follows, Occurs, here, there}
 use Rattle.dispute.specs.Promise.{Refuses, Days}
 
 pub same_party_lem : (v w : Party) → same_party v w ≡ true → v ≡ w
@@ -23,8 +21,8 @@ same_self Doubter = refl
 
 pub counts_one : (e : Event) (a : Answer) → counts e a ≤ 1
 counts_one (day d) a = omega arith
-counts_one (sent w b) Taken = omega arith
-counts_one (sent w b) (Refused k) = omega arith
+counts_one (sent w b) (Ok u) = omega arith
+counts_one (sent w b) (Err k) = omega arith
 
 may_move_lem : (t : Option Party) (w : Party) → may_move t w ≡ true → t ≡ Some w
 may_move_lem None w e = cc
@@ -32,13 +30,13 @@ may_move_lem (Some v) w e = ap Some (same_party_lem v w e)
 
 module _ (P : Protocol) where
   -- a fact of what is made of a day, and of a message
-  pub on_day : (c : CaseOf P) (d : ℕ) (Q : CaseOf P × Answer → Type 0) → Q (c, Taken) → (d ≡ c.day + 1 → Q (next_day P c, Taken)) → Q (c, Refused WrongDay) → Q (take P c (day d))
+  pub on_day : (c : CaseOf P) (d : ℕ) (Q : CaseOf P × Answer → Type 0) → Q (c, Taken) → (d ≡ c.day + 1 → Q (next_day P c, Taken)) → Q (c, Err WrongDay) → Q (take P c (day d))
   unfolding take
   on_day c d Q same dawns no' =
-      cond_both (eqb d c.day) (c, Taken) (cond (eqb d (c.day + 1)) (next_day P c, Taken) (c, Refused WrongDay)) Q (λ _. same)
-      (λ _. cond_both (eqb d (c.day + 1)) (next_day P c, Taken) (c, Refused WrongDay) Q (λ e. dawns (eqb-true d (c.day + 1) e)) (λ _. no'))
+      cond_both (eqb d c.day) (c, Taken) (cond (eqb d (c.day + 1)) (next_day P c, Taken) (c, Err WrongDay)) Q (λ _. same)
+      (λ _. cond_both (eqb d (c.day + 1)) (next_day P c, Taken) (c, Err WrongDay) Q (λ e. dawns (eqb-true d (c.day + 1) e)) (λ _. no'))
 
-  pub on_sent : (c : CaseOf P) (w : Party) (b : Bytes) (Q : CaseOf P × Answer → Type 0) → ((k : Refusal) → Q (c, Refused k)) →
+  pub on_sent : (c : CaseOf P) (w : Party) (b : Bytes) (Q : CaseOf P × Answer → Type 0) → ((k : Refusal) → Q (c, Err k)) →
       ((m : P.Message) (f : P.Phase) → P.decode b ≡ Some m → P.turn c.phase ≡ Some w → P.move c.phase m ≡ Some f → Q (moved P c f, Taken)) → Q (take P c (sent w b))
   unfolding take
   on_sent c w b Q same makes = read (P.decode b) refl
@@ -50,12 +48,12 @@ module _ (P : Protocol) where
       read : (o : Option P.Message) → P.decode b ≡ o → Q (receive P c w o)
       read None e = same Unreadable
       read (Some m) e =
-          cond_both (may_move (P.turn c.phase) w) (settle P c (P.move c.phase m)) (c, Refused OutOfTurn) Q
+          cond_both (may_move (P.turn c.phase) w) (settle P c (P.move c.phase m)) (c, Err OutOfTurn) Q
           (λ t. settled m (P.move c.phase m) e (may_move_lem (P.turn c.phase) w t) refl) (λ _. same OutOfTurn)
 
   pub refuses : Refuses P
-  refuses c (day d) k = on_day c d (λ r. r.1 ≡ Refused k → r.0 ≡ c) (λ _. refl) (λ _ e. let z : ◌≡◌ {A = ℕ} 0 1 = cc in absurd (omega arith)) (λ _. refl)
-  refuses c (sent w b) k = on_sent c w b (λ r. r.1 ≡ Refused k → r.0 ≡ c) (λ _ _. refl) (λ m f e t v x. let z : ◌≡◌ {A = ℕ} 0 1 = cc in absurd (omega arith))
+  refuses c (day d) k = on_day c d (λ r. r.1 ≡ Err k → r.0 ≡ c) (λ _. refl) (λ _ e. cc) (λ _. refl)
+  refuses c (sent w b) k = on_sent c w b (λ r. r.1 ≡ Err k → r.0 ≡ c) (λ _ _. refl) (λ m f e t v x. cc)
 
   pub days : Days P
   unfolding take

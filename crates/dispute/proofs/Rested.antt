@@ -1,5 +1,5 @@
 -- Case and answer rest on just the strings that are digested.
-use Rattle.std.proofs.Common.{◌≡◌, Bool, true, false, cond, [], Some, None, Option, refl, ap, ◌∙◌}
+use Rattle.std.proofs.Common.{◌≡◌, Bool, true, false, cond, [], Some, None, Err, Option, refl, ap, ◌∙◌}
 use Rattle.merkle.specs.Bytes.{Bytes, Hash}
 use Rattle.witness.specs.declared.Party.{Party}
 use Rattle.witness.specs.declared.Party.TheVariants.{Claimer, Doubter}
@@ -8,7 +8,6 @@ use Rattle.witness.specs.Laws.{machine, Agree}
 use Rattle.witness.proofs.Works.{rests}
 use Rattle.dispute.specs.declared.Case.{Case}
 use Rattle.dispute.specs.declared.Refusal.TheVariants.{OutOfTurn}
-use Rattle.dispute.specs.declared.Answer.TheVariants.{Refused}
 use Rattle.dispute.specs.declared.Message.{Message}
 use Rattle.dispute.specs.declared.Message.TheVariants.{Claim, Doubt, Middle, Right, Wrong, Step}
 use Rattle.dispute.specs.declared.Phase.{Phase}
@@ -38,7 +37,7 @@ module _ (h k : Hash) where
 
   module _ (g : Bytes) (c : Case Phase) (w : Party) where
     turned : (m : Message Witness) (t : Bool) → Agree h k (cond t (move_strings h c.phase m) []) →
-        cond t (settle (bisection (machine h) g) c (move (machine h) c.phase m)) (c, Refused OutOfTurn) ≡ cond t (settle (bisection (machine k) g) c (move (machine k) c.phase m)) (c, Refused OutOfTurn)
+        cond t (settle (bisection (machine h) g) c (move (machine h) c.phase m)) (c, Err OutOfTurn) ≡ cond t (settle (bisection (machine k) g) c (move (machine k) c.phase m)) (c, Err OutOfTurn)
     turned m true agree = ap (settle (bisection (machine k) g) c) (move_rests c.phase m agree)
     turned m false agree = refl
 

@@ -14,7 +14,7 @@ use Rattle.dispute.specs.declared.Phase.TheVariants.{Claiming, Doubting, Bisecti
 use Rattle.dispute.specs.Referee.{Event, opening, late, play, Follows}
 use Rattle.dispute.specs.Bisection.{turn, disputing, whole, first_half, second_half, MessageOf, verdict, game, honest_claimer, honest_doubter, Collides, collides, ClaimsRight, claims_right}
 use Rattle.dispute.specs.Promise.{ClaimerSafeIn, DoubterSafeIn, Excused}
-use Rattle.dispute.proofs.Basics.{some_none, digest_start, digest_step, valid_run, twice}
+use Rattle.dispute.proofs.Basics.{digest_start, digest_step, valid_run, twice}
 use Rattle.dispute.proofs.Plays.{followed, never}
 use Rattle.dispute.proofs.Moves.{Move, claims, doubts, names, agrees, denies, proves, made}
 
@@ -74,11 +74,11 @@ module _ (S : System) (law : Lawful S) (s : S.State) (v : S.Valid s) (n : ℕ) w
       rw e (rw (step_accepted S law s v p i) tt)
 
 fine_late : (S : System) (s : S.State) (n : ℕ) (f : Phase) → honest_claimer S s n f ≡ None → Fine S s f → Fine S s (late (game S s) f)
-fine_late S s n (Claiming g) r i = some_none r
+fine_late S s n (Claiming g) r i = cc
 fine_late S s n (Doubting g m x) r i = tt
-fine_late S s n (Bisecting m p) r i = some_none r
+fine_late S s n (Bisecting m p) r i = cc
 fine_late S s n (Answering m p x) r i = tt
-fine_late S s n (Proving p) r i = some_none r
+fine_late S s n (Proving p) r i = cc
 fine_late S s n (Over w) r i = i
 
 pub claimer_safe : (S : System) → Lawful S → (s : S.State) → S.Valid s → (es : List Event) → ClaimerSafeIn S s es (play (game S s) (opening (game S s)) es)
@@ -136,7 +136,7 @@ firm_late : (S : System) (s : S.State) (f : Phase) → honest_doubter S s f ≡ 
 firm_late S s (Claiming g) r i = tt
 firm_late S s (Doubting g n x) r i = i.1 (eq_true x (digest_at S s (2 ^ n)) (said_nothing (eq_bytes x (digest_at S s (2 ^ n))) r))
 firm_late S s (Bisecting n p) r i = tt
-firm_late S s (Answering n p x) r i = some_none r
+firm_late S s (Answering n p x) r i = cc
 firm_late S s (Proving p) r i = tt
 firm_late S s (Over w) r i = i
 

@@ -1,5 +1,5 @@
 -- What is promised of a dispute over a system. Each is a type; a proof of it for every lawful system is the theorem.
-use Rattle.std.specs.Prelude.{◌≡◌, ℕ, suc, ◌+◌, ◌*◌, ◌^◌, ◌<◌, ◌≤◌, ◌⊎◌, List, [], ◌∷◌, ◌++◌, Some, ◌≢◌}
+use Rattle.std.specs.Prelude.{◌≡◌, ℕ, suc, ◌+◌, ◌*◌, ◌^◌, ◌<◌, ◌≤◌, ◌⊎◌, List, [], ◌∷◌, ◌++◌, Some, Err, ◌≢◌}
 use Rattle.merkle.specs.Bytes.{Bytes, Hash, Whole}
 use Rattle.system.specs.System.{System, Lawful}
 use Rattle.witness.specs.declared.Party.{Party}
@@ -7,15 +7,14 @@ use Rattle.witness.specs.declared.Party.TheVariants.{Claimer, Doubter}
 use Rattle.witness.specs.Laws.{machine}
 use Rattle.dispute.specs.declared.Case.{Case}
 use Rattle.dispute.specs.declared.Refusal.{Refusal}
-use Rattle.dispute.specs.declared.Answer.TheVariants.{Taken, Refused}
 use Rattle.dispute.specs.declared.Phase.{Phase}
 use Rattle.dispute.specs.declared.Phase.TheVariants.{Claiming, Doubting, Bisecting, Answering, Proving, Over}
-use Rattle.dispute.specs.Referee.{Protocol, CaseOf, Event, day, sent, opening, late, take, play, count, Follows, Occurs}
+use Rattle.dispute.specs.Referee.{Taken, Protocol, CaseOf, Event, day, sent, opening, late, take, play, count, Follows, Occurs}
 use Rattle.dispute.specs.Bisection.{MessageOf, decode, encode, Sendable, bisection, game, honest_claimer, honest_doubter, Collides, ClaimsRight, Claims}
 
 -- Of the referee, over any protocol: a refusal changes nothing.
 abbrev pub Refuses : Protocol → Type 0
-Refuses P = (c : CaseOf P) (e : Event) (k : Refusal) → (take P c e).1 ≡ Refused k → (take P c e).0 ≡ c
+Refuses P = (c : CaseOf P) (e : Event) (k : Refusal) → (take P c e).1 ≡ Err k → (take P c e).0 ≡ c
 
 -- Of the referee, over any protocol: a turn that began on day D ends when day D + 2 begins, and not before.
 abbrev pub Days : Protocol → Type 0

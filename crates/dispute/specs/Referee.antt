@@ -1,14 +1,12 @@
 -- The referee over any protocol: turns, days and answers; and what it means that a party follows a strategy.
 -- The first day is 0, and the first turn begins on it; naming the day that is on again changes nothing; days go on after the end.
-use Rattle.std.specs.Prelude.{◌≡◌, ℕ, ◌+◌, Bool, true, false, cond, List, [], ◌∷◌, Some, None, Option, ◌==◌, nat_le}
+use Rattle.std.specs.Prelude.{◌≡◌, ℕ, ◌+◌, Bool, true, false, cond, List, [], ◌∷◌, Some, None, Option, Ok, Err, Result, ◌==◌, nat_le}
 use Rattle.merkle.specs.Bytes.{Bytes}
 use Rattle.witness.specs.declared.Party.{Party}
 use Rattle.witness.specs.declared.Party.TheVariants.{Claimer, Doubter}
 use Rattle.dispute.specs.declared.Case.{Case}
 use Rattle.dispute.specs.declared.Refusal.{Refusal}
 use Rattle.dispute.specs.declared.Refusal.TheVariants.{Unreadable, OutOfTurn, OutOfPlace, WrongDay}
-use Rattle.dispute.specs.declared.Answer.{Answer}
-use Rattle.dispute.specs.declared.Answer.TheVariants.{Taken, Refused}
 
 -- The number of a refusal. 1: no message; 2: not this party's turn, or the case is over; 3: not a message for this turn; 4: neither the day that is on nor the next.
 abbrev pub refusal_number : Refusal → ℕ
@@ -16,6 +14,13 @@ refusal_number Unreadable = 1
 refusal_number OutOfTurn = 2
 refusal_number OutOfPlace = 3
 refusal_number WrongDay = 4
+
+-- What comes of something: it is taken, or refused.
+abbrev pub Answer : Type 0
+Answer = Result (Unit {0}) Refusal
+
+abbrev pub Taken : Answer
+Taken = Ok tt
 
 abbrev pub opponent : Party → Party
 opponent Claimer = Doubter
@@ -53,8 +58,8 @@ may_move (Some v) w = same_party v w
 -- One for a message that is taken.
 abbrev pub counts : Event → Answer → ℕ
 counts (day d) a = 0
-counts (sent w b) Taken = 1
-counts (sent w b) (Refused k) = 0
+counts (sent w b) (Ok u) = 1
+counts (sent w b) (Err k) = 0
 
 module _ (P : Protocol) where
   abbrev pub CaseOf : Type 0
@@ -85,17 +90,17 @@ module _ (P : Protocol) where
   moved c f = record { day = c.day; since = c.day; phase = f }
 
   abbrev pub settle : CaseOf → Option P.Phase → CaseOf × Answer
-  settle c None = (c, Refused OutOfPlace)
+  settle c None = (c, Err OutOfPlace)
   settle c (Some f) = (moved c f, Taken)
 
   -- What is made of a message: the lowest number that applies is the answer, and a refusal changes nothing.
   abbrev pub receive : CaseOf → Party → Option P.Message → CaseOf × Answer
-  receive c w None = (c, Refused Unreadable)
-  receive c w (Some m) = cond (may_move (P.turn c.phase) w) (settle c (P.move c.phase m)) (c, Refused OutOfTurn)
+  receive c w None = (c, Err Unreadable)
+  receive c w (Some m) = cond (may_move (P.turn c.phase) w) (settle c (P.move c.phase m)) (c, Err OutOfTurn)
 
   -- The case after an event, and the answer.
   unfoldable pub take : CaseOf → Event → CaseOf × Answer
-  take c (day d) = cond (d == c.day) (c, Taken) (cond (d == c.day + 1) (next_day c, Taken) (c, Refused WrongDay))
+  take c (day d) = cond (d == c.day) (c, Taken) (cond (d == c.day + 1) (next_day c, Taken) (c, Err WrongDay))
   take c (sent w b) = receive c w (P.decode b)
 
   abbrev pub next : CaseOf → Event → CaseOf

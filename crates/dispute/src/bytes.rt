@@ -25,43 +25,40 @@ fn digest(bytes: &[u8]) -> Option<Digest>
 }
 
 // A claim: n and the digest.
+#[tactic(auto, unfolding(crate::specs::Bisection::sized, crate::specs::Bisection::claim_in))]
 fn claim(body: &[u8]) -> Option<Message<Witness>>
     ensures { result ≡ claim_in body.now }
 {
     let (n, claimed) = body.split_first()?;
-    if *n < LEAST || *n > MOST {
+    if !(LEAST..=MOST).contains(n) {
         return None;
     }
-    let claimed = digest(claimed)?;
-    Some(Message::Claim(*n, claimed))
+    Some(Message::Claim(*n, digest(claimed)?))
 }
 
+#[tactic(auto, unfolding(crate::specs::Bisection::sized))]
 fn middle(body: &[u8]) -> Option<Message<Witness>>
     ensures { result ≡ sized 32 body.now (Middle body.now) }
 {
-    let middle = digest(body)?;
-    Some(Message::Middle(middle))
+    digest(body).map(Message::Middle)
 }
 
 fn step(body: &[u8]) -> Option<Message<Witness>>
     ensures { result ≡ option_map Step (parse 6 body.now) }
 {
-    let witness = Witness::from_bytes(body)?;
-    Some(Message::Step(witness))
+    Witness::from_bytes(body).map(Message::Step)
 }
 
 // Two strings as one.
 fn joined(heap: Global, front: &[u8], back: &[u8]) -> Result<Vec<u8>, AllocError>
     ensures { IfOk result (λ v. v.items ≡ front.now ++ back.now) }
 {
-    let mut bytes = Vec::new(heap);
-    bytes.extend_from_slice(front)?;
-    bytes.extend_from_slice(back)?;
-    Ok(bytes)
+    [front, back].concat(heap)
 }
 
 impl Message<Witness> {
     // The message in a string, by its first byte; none if it is no message.
+    #[tactic(auto, unfolding(crate::specs::Bisection::decode, crate::specs::Bisection::body_of, crate::specs::Bisection::sized, witness::specs::Wire::parse))]
     pub fn decode(bytes: &[u8]) -> Option<Message<Witness>>
         ensures { (h : Hash) → result ≡ decoded (machine h) bytes.now }
     {

@@ -1,7 +1,7 @@
 // The dispute: messages, turns and days, and the referee's answers.
 #![tactic(auto)]
 
-ghost use Rattle.std.specs.Prelude.{◌≡◌};
+ghost use Rattle.std.specs.Prelude.{◌≡◌, Some, decimal};
 ghost use Rattle.merkle.specs.Bytes.{Bytes, Hash};
 ghost use Rattle.witness.specs.Laws.{machine};
 ghost use Rattle.dispute.specs.Referee.{refusal_number, opening, take, day as begins};
@@ -14,6 +14,7 @@ mod turns;
 
 use merkle::Digest;
 pub use referee::Referee;
+use std::fmt;
 use witness::Party;
 
 // What the parties say; W is what is shown of a step.
@@ -62,7 +63,7 @@ pub struct Case<P> {
 }
 
 // Why something is turned away.
-#[derive(Clone, Copy)]
+#[derive(Clone, Copy, Debug, PartialEq, Eq)]
 pub enum Refusal {
     Unreadable,
     OutOfTurn,
@@ -70,10 +71,16 @@ pub enum Refusal {
     WrongDay,
 }
 
-#[derive(Clone, Copy)]
-pub enum Answer {
-    Taken,
-    Refused(Refusal),
+// Something is taken, or turned away.
+pub type Answer = Result<(), Refusal>;
+
+// A refusal is printed by its number.
+impl fmt::Display for Refusal {
+    ghost output = { λ refusal. Some (decimal (refusal_number refusal)) };
+
+    fn fmt<W: fmt::Write>(&self, f: &mut fmt::Formatter<W>) -> fmt::Result {
+        write!(f, "{}", self.number())
+    }
 }
 
 impl Refusal {
@@ -103,18 +110,19 @@ impl Case<Phase> {
     }
 
     // A day begins: the one that is on again, or the next.
+    #[tactic(auto, unfolding(crate::specs::Referee::take))]
     pub fn day(self, day: u64) -> (Case<Phase>, Answer)
         ensures { (h : Hash) (g : Bytes) → result ≡ take (bisection (machine h) g) self (begins day) }
     {
         if day == self.day {
-            return (self, Answer::Taken);
+            return (self, Ok(()));
         }
-        if day == 0 || day - 1 != self.day {
-            return (self, Answer::Refused(Refusal::WrongDay));
+        if day.checked_sub(1) != Some(self.day) {
+            return (self, Err(Refusal::WrongDay));
         }
         let phase = self.phase.at_dawn(self.since, day);
         let since = self.since;
-        (Case { day, since, phase }, Answer::Taken)
+        (Case { day, since, phase }, Ok(()))
     }
 }
 

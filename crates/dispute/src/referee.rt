@@ -60,11 +60,11 @@ impl Referee {
         ensures rests { (k : Hash) (g : Bytes) → Agree D.hash k (strings D.hash self.case.phase party (decode (machine D.hash) bytes.now)) → (result.0.case, result.1) ≡ take (bisection (machine k) g) self.case (sent party bytes.now) }
     {
         let Some(message) = Message::decode(bytes) else {
-            return (self, Answer::Refused(Refusal::Unreadable));
+            return (self, Err(Refusal::Unreadable));
         };
         let phase = self.case.phase;
         if !phase.is_turn_of(party) {
-            return (self, Answer::Refused(Refusal::OutOfTurn));
+            return (self, Err(Refusal::OutOfTurn));
         }
         let next = phase.after(digester, &message);
         self.settle(next)
@@ -77,8 +77,8 @@ impl Referee {
     {
         let Case { day, since, phase } = self.case;
         let (since, phase, answer) = match next {
-            Some(next) => (day, next, Answer::Taken),
-            None => (since, phase, Answer::Refused(Refusal::OutOfPlace)),
+            Some(next) => (day, next, Ok(())),
+            None => (since, phase, Err(Refusal::OutOfPlace)),
         };
         let case = Case { day, since, phase };
         (Referee { case }, answer)

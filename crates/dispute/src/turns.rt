@@ -77,10 +77,7 @@ impl Phase {
     pub(crate) fn is_turn_of(&self, party: Party) -> bool
         ensures { result ≡ may_move (turn_of self.now) party }
     {
-        match (self.turn(), party) {
-            (Some(Party::Claimer), Party::Claimer) | (Some(Party::Doubter), Party::Doubter) => true,
-            _ => false,
-        }
+        self.turn() == Some(party)
     }
 
     // The phase after a turn that ran out: whoever let it run out has lost.
@@ -116,6 +113,7 @@ impl Phase {
     }
 
     // The phase after a message in its turn; none where the turn is not for it.
+    #[tactic(auto, unfolding(merkle::specs::Seen::seen_all))]
     pub(crate) fn after<D: Digester>(
         self,
         digester: &mut D,

@@ -4,8 +4,7 @@ use Rattle.system.specs.System.{System, Lawful}
 use Rattle.witness.specs.declared.Party.{Party}
 use Rattle.dispute.specs.declared.Case.{Case}
 use Rattle.dispute.specs.declared.Phase.{Phase}
-use Rattle.dispute.specs.declared.Answer.TheVariants.{Taken}
-use Rattle.dispute.specs.Referee.{Protocol, CaseOf, Event, opening, take, next, play, Strategy, Obeys, Follows}
+use Rattle.dispute.specs.Referee.{Taken, Protocol, CaseOf, Event, opening, take, next, play, Strategy, Obeys, Follows}
 use Rattle.dispute.specs.Bisection.{MessageOf, decode, encode, game}
 use Rattle.dispute.specs.Promise.{Promised}
 use Rattle.dispute.proofs.Limits.{right_one_wins, claimer_can, doubter_can}

@@ -8,8 +8,7 @@ use Rattle.dispute.specs.declared.Case.{Case}
 use Rattle.dispute.specs.declared.Phase.{Phase}
 use Rattle.dispute.specs.declared.Dispute.{Dispute}
 use Rattle.dispute.specs.declared.Phase.TheVariants.{Claiming, Doubting, Bisecting, Answering, Proving, Over}
-use Rattle.dispute.specs.declared.Answer.TheVariants.{Taken}
-use Rattle.dispute.specs.Referee.{Event, sent, opening, take, play, Follows}
+use Rattle.dispute.specs.Referee.{Taken, Event, sent, opening, take, play, Follows}
 use Rattle.dispute.specs.Bisection.{MessageOf, encode, game, honest_claimer, honest_doubter}
 use Rattle.dispute.specs.Promise.{Promised, Excused}
 use Rattle.history.specs.declared.History.{History}

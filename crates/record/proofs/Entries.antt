@@ -1,5 +1,6 @@
 -- What is made of a line, by the words that it may begin with.
 use Rattle.std.proofs.Common.{◌≡◌, ◌-◌, ◌^◌, true, ◌++◌, length, Some, None, Ok, Err, decimal, Option, Result, sym, refl, ap, ◌∙◌, arith}
+use Rattle.std.specs.Str.Lines.{strip_carriage_return}
 use Rattle.std.specs.Result as results
 use Rattle.std.specs.Result.{result_ok}
 use Rattle.std.specs.Array.{IsWholeChunk}
@@ -13,7 +14,7 @@ use Rattle.witness.specs.declared.Party.TheVariants.{Claimer, Doubter}
 use Rattle.dispute.specs.declared.Refusal.TheVariants.{Unreadable, WrongDay}
 use Rattle.record.specs.declared.Entry.{Entry}
 use Rattle.record.specs.declared.Entry.TheVariants.{Sent, Day, Faulty}
-use Rattle.record.specs.Record.{without_cr, after, or_else, sent_word, day_word, case_word, message, day, entry_in, digest_in, whole, opening_in, SentIsRead, DayIsRead, OpeningIsRead}
+use Rattle.record.specs.Record.{after, or_else, sent_word, day_word, case_word, message, day, entry_in, digest_in, whole, opening_in, SentIsRead, DayIsRead, OpeningIsRead}
 use Rattle.record.proofs.Lines.{after_word, plain, plain_hex, plain_decimal, ended_bare}
 
 -- the entry by what follows the three words
@@ -21,7 +22,7 @@ abbrev pub chosen : (c d y : Option Bytes) → Entry Bytes
 chosen c d y = or_else c (message Claimer) (or_else d (message Doubter) (or_else y day (Faulty Unreadable)))
 
 -- m is the line l without its CR
-module _ (l m : Bytes) (bare : m ≡ without_cr l) where
+module _ (l m : Bytes) (bare : m ≡ strip_carriage_return l) where
   pub entry_is : {c d y : Option Bytes} → c ≡ after (sent_word Claimer) m → d ≡ after (sent_word Doubter) m → y ≡ after day_word m → chosen c d y ≡ entry_in l
   unfolding entry_in
   entry_is {c} {d} {y} ic id iy =
@@ -46,7 +47,7 @@ unfolding plain
 word_plain Claimer = refl
 word_plain Doubter = refl
 
-sender_read : (w : Party) (l t : Bytes) → sent_word w ++ t ≡ without_cr l → message w t ≡ entry_in l
+sender_read : (w : Party) (l t : Bytes) → sent_word w ++ t ≡ strip_carriage_return l → message w t ≡ entry_in l
 unfolding after
 sender_read Claimer l t bare = entry_is l _ bare (sym (after_word (sent_word Claimer) t)) refl refl
 sender_read Doubter l t bare = entry_is l _ bare refl (sym (after_word (sent_word Doubter) t)) refl

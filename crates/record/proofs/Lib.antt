@@ -1,4 +1,3 @@
 mod Lines
 mod Entries
-mod Holding
 mod Entered

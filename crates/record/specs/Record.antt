@@ -1,17 +1,17 @@
 -- The lines of a case's record, as bytes without the line feed.
-use Rattle.std.specs.Prelude.{◌≡◌, ℕ, ◌-◌, ◌^◌, ◌<◌, Bool, true, cond, List, [], ◌∷◌, ◌++◌, length, Some, None, vec_items, codes, decimal, Option, Vec, ◌==◌}
+use Rattle.std.specs.Prelude.{◌≡◌, ℕ, ◌-◌, ◌^◌, ◌<◌, Bool, true, cond, List, [], ◌∷◌, ◌++◌, length, Some, None, Ok, Err, vec_items, codes, decimal, Option, Vec, ◌==◌}
+use Rattle.std.specs.Str.Lines.{strip_carriage_return}
 use Rattle.std.specs.declared.alloc.Global.{Global}
 use Rattle.merkle.specs.Bytes.{Bytes, all_bytes, is_digest}
 use Rattle.text.specs.Text.{hexadecimal, unhex, number, up_to}
 use Rattle.witness.specs.declared.Party.{Party}
 use Rattle.witness.specs.declared.Party.TheVariants.{Claimer, Doubter}
-use Rattle.dispute.specs.declared.Answer.{Answer}
-use Rattle.dispute.specs.declared.Answer.TheVariants.{Taken, Refused}
+use Rattle.witness.specs.Name.{name}
 use Rattle.dispute.specs.declared.Phase.{Phase}
 use Rattle.dispute.specs.declared.Phase.TheVariants.{Claiming, Doubting, Bisecting, Answering, Proving, Over}
 use Rattle.dispute.specs.declared.Refusal.TheVariants.{Unreadable, WrongDay}
 use Rattle.dispute.specs.declared.Case.{Case}
-use Rattle.dispute.specs.Referee.{Protocol, CaseOf, Event, sent, day as begins, opening, take, play, refusal_number}
+use Rattle.dispute.specs.Referee.{Answer, Protocol, CaseOf, Event, sent, day as begins, opening, take, play, refusal_number}
 use Rattle.dispute.specs.Bisection.{turn, game}
 use Rattle.dispute.specs.Promise.{Promised}
 use Rattle.system.specs.System.{System}
@@ -19,12 +19,6 @@ use Rattle.record.specs.declared.Entry.{Entry}
 use Rattle.record.specs.declared.Entry.TheVariants.{Sent, Day, Faulty}
 
 -- ---- reading
--- A line without the CR at its end, if it has one.
-unfoldable pub without_cr : Bytes → Bytes
-without_cr [] = []
-without_cr (c ∷ []) = cond (c == 13) [] (c ∷ [])
-without_cr (c ∷ d ∷ cs) = c ∷ without_cr (d ∷ cs)
-
 -- What follows a word at the front of a line, if the word is there.
 unfoldable pub after : (word line : Bytes) → Option Bytes
 after [] l = Some l
@@ -35,10 +29,6 @@ after (c ∷ w) (d ∷ l) = cond (c == d) (after w l) None
 abbrev pub or_else : {X Y : Type 0} → Option X → (X → Y) → Y → Y
 or_else None f y = y
 or_else (Some x) f y = f x
-
-abbrev pub name : Party → Bytes
-name Claimer = codes "claimer"
-name Doubter = codes "doubter"
 
 -- The words that lines begin with, and the space after them.
 abbrev pub sent_word : Party → Bytes
@@ -61,9 +51,9 @@ day t = or_else (up_to (2 ^ 64 - 1) (number t)) Day (Faulty WrongDay)
 -- The entry in a line: claimer HEX, doubter HEX, or day D.
 unfoldable pub entry_in : Bytes → Entry Bytes
 entry_in l =
-    or_else (after (sent_word Claimer) (without_cr l)) (message Claimer)
-    (or_else (after (sent_word Doubter) (without_cr l)) (message Doubter)
-    (or_else (after day_word (without_cr l)) day (Faulty Unreadable)))
+    or_else (after (sent_word Claimer) (strip_carriage_return l)) (message Claimer)
+    (or_else (after (sent_word Doubter) (strip_carriage_return l)) (message Doubter)
+    (or_else (after day_word (strip_carriage_return l)) day (Faulty Unreadable)))
 
 -- The 32 bytes of a digest.
 abbrev pub whole : Bytes → Option Bytes
@@ -75,7 +65,7 @@ digest_in t = or_else (unhex t) whole None
 
 -- The digest in a case's first line: case DIGEST.
 unfoldable pub opening_in : Bytes → Option Bytes
-opening_in l = or_else (after case_word (without_cr l)) digest_in None
+opening_in l = or_else (after case_word (strip_carriage_return l)) digest_in None
 
 -- The entry that the code holds, with the bytes in place of a vector of them.
 abbrev pub held : Entry (Vec ℕ Global) → Entry Bytes
@@ -105,7 +95,7 @@ OpeningIsRead = (cr : Bool) (d : Bytes) → is_digest d ≡ true → opening_in 
 abbrev pub entered : (P : Protocol) → CaseOf P → Entry Bytes → CaseOf P × Answer
 entered P c (Sent w b) = take P c (sent w b)
 entered P c (Day d) = take P c (begins d)
-entered P c (Faulty k) = (c, Refused k)
+entered P c (Faulty k) = (c, Err k)
 
 -- The event that it is for the referee, if any.
 abbrev pub events : Entry Bytes → List Event
@@ -120,8 +110,8 @@ KeepsAt S c e c' = (s : S.State) → S.Valid s → (es : List Event) → c ≡ p
 -- ---- answers
 -- What became of an entry: taken, or the number of the refusal.
 abbrev pub outcome : Answer → Bytes
-outcome Taken = codes "taken"
-outcome (Refused r) = decimal (refusal_number r)
+outcome (Ok u) = codes "taken"
+outcome (Err r) = decimal (refusal_number r)
 
 -- The winner, once the case is over.
 abbrev pub winner : Phase → Option Party

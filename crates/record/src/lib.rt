@@ -3,15 +3,18 @@
 
 ghost use Rattle.std.specs.Prelude.{◌≡◌, IfOk, string_bytes};
 ghost use Rattle.std.specs.Option.{option_map};
+ghost use Rattle.std.specs.Str.Lines.{strip_carriage_return};
 ghost use Rattle.merkle.specs.Bytes.{Bytes};
 ghost use Rattle.witness.specs.Laws.{machine};
 ghost use Rattle.dispute.specs.Bisection.{bisection};
-ghost use Rattle.record.specs.Held.{Holds, entry_at, opening_at, answers_so};
-ghost use Rattle.record.specs.Record.{entered, KeepsAt, without_cr, after as following, message, day as day_in, entry_in, held, opening_in, name as name_of, standing as stands_so, answer_line, SentIsRead, DayIsRead, OpeningIsRead};
+ghost use Rattle.record.specs.Held.{entry_at, opening_at, answers_so};
+ghost use Rattle.record.specs.Record.{entered, KeepsAt, message, day as day_in, entry_in, held, opening_in, standing as stands_so, answer_line, SentIsRead, DayIsRead, OpeningIsRead};
 
+mod input;
 mod line;
 
 use dispute::{Answer, Phase, Referee, Refusal};
+pub use input::read_line;
 pub use line::Line;
 use merkle::{Digest, Digester, same};
 use std::alloc::{AllocError, Global};
@@ -29,37 +32,25 @@ pub enum Entry<B> {
 
 // The line without a CR at its end.
 fn without_cr(line: &[u8]) -> &[u8]
-    ensures { result.now ≡ without_cr line.now }
+    ensures { result.now ≡ strip_carriage_return line.now }
 {
-    match line.strip_suffix(b"\r") {
-        Some(front) => front,
-        None => line,
-    }
-}
-
-// What follows a word at the front of a line.
-fn after<'a>(word: &[u8], line: &'a [u8]) -> Option<&'a [u8]>
-    ensures { option_map (λ x. x.now) result ≡ following word.now line.now }
-{
-    line.strip_prefix(word)
+    line.strip_suffix(b"\r").unwrap_or(line)
 }
 
 fn sent(heap: Global, party: Party, digits: &[u8]) -> Result<Entry<Vec<u8>>, AllocError>
     ensures { IfOk result (λ e. held e ≡ message party digits.now) }
 {
-    match hex::decode(heap, digits)? {
-        Some(bytes) => Ok(Entry::Sent(party, bytes)),
-        None => Ok(Entry::Faulty(Refusal::Unreadable)),
-    }
+    let bytes = hex::decode(heap, digits)?;
+    Ok(bytes.map_or(
+        Entry::Faulty(Refusal::Unreadable),
+        |bytes| Entry::Sent(party, bytes),
+    ))
 }
 
 fn day(digits: &[u8]) -> Entry<Vec<u8>>
     ensures { held result ≡ day_in digits.now }
 {
-    match number::parse(digits, u64::MAX) {
-        Some(day) => Entry::Day(day),
-        None => Entry::Faulty(Refusal::WrongDay),
-    }
+    number::parse(digits, u64::MAX).map_or(Entry::Faulty(Refusal::WrongDay), Entry::Day)
 }
 
 // The entry in the text of a line: claimer HEX, doubter HEX, or day D.
@@ -67,13 +58,13 @@ fn parse(heap: Global, line: &[u8]) -> Result<Entry<Vec<u8>>, AllocError>
     ensures { IfOk result (λ e. held e ≡ entry_in line.now) }
 {
     let line = without_cr(line);
-    if let Some(digits) = after(b"claimer ", line) {
+    if let Some(digits) = line.strip_prefix(b"claimer ") {
         return sent(heap, Party::Claimer, digits);
     }
-    if let Some(digits) = after(b"doubter ", line) {
+    if let Some(digits) = line.strip_prefix(b"doubter ") {
         return sent(heap, Party::Doubter, digits);
     }
-    if let Some(digits) = after(b"day ", line) {
+    if let Some(digits) = line.strip_prefix(b"day ") {
         return Ok(day(digits));
     }
     Ok(Entry::Faulty(Refusal::Unreadable))
@@ -83,7 +74,7 @@ fn parse(heap: Global, line: &[u8]) -> Result<Entry<Vec<u8>>, AllocError>
 fn opening_in(heap: Global, line: &[u8]) -> Result<Option<Digest>, AllocError>
     ensures { IfOk result (λ o. o ≡ opening_in line.now) }
 {
-    let Some(digits) = after(b"case ", without_cr(line)) else {
+    let Some(digits) = without_cr(line).strip_prefix(b"case ") else {
         return Ok(None);
     };
     let Some(bytes) = hex::decode(heap, digits)? else {
@@ -94,22 +85,22 @@ fn opening_in(heap: Global, line: &[u8]) -> Result<Option<Digest>, AllocError>
 
 // The digest that a first line opens a case with, if it does.
 pub fn opening(heap: Global, line: &Line) -> Result<Option<Digest>, AllocError>
-    ensures { IfOk result (λ o. ((bs : Bytes) → Holds line.now bs → o ≡ opening_at bs)) }
+    ensures { IfOk result (λ o. o ≡ opening_at line.now) }
 {
-    match line.text() {
-        Some(text) => opening_in(heap, text),
-        None => Ok(None),
-    }
+    let Some(text) = line.text() else {
+        return Ok(None);
+    };
+    opening_in(heap, text)
 }
 
 // The entry in a line after the first; one that is too long is no message.
 pub fn read(heap: Global, line: &Line) -> Result<Entry<Vec<u8>>, AllocError>
-    ensures { IfOk result (λ e. ((bs : Bytes) → Holds line.now bs → held e ≡ entry_at bs)) }
+    ensures { IfOk result (λ e. held e ≡ entry_at line.now) }
 {
-    match line.text() {
-        Some(text) => parse(heap, text),
-        None => Ok(Entry::Faulty(Refusal::Unreadable)),
-    }
+    let Some(text) = line.text() else {
+        return Ok(Entry::Faulty(Refusal::Unreadable));
+    };
+    parse(heap, text)
 }
 
 // What comes of an entry at the referee: it takes a message or a day, and a faulty one is refused.
@@ -123,7 +114,7 @@ pub fn admit<D: Digester>(
     match entry {
         Entry::Sent(party, bytes) => referee.receive(digester, *party, bytes),
         Entry::Day(day) => referee.day(*day),
-        Entry::Faulty(refusal) => (referee, Answer::Refused(*refusal)),
+        Entry::Faulty(refusal) => (referee, Err(*refusal)),
     }
 }
 
@@ -134,33 +125,22 @@ pub fn enter<D: Digester>(
     digester: &mut D,
     line: &Line,
 ) -> Result<(Referee, Answer), AllocError>
-    ensures value { IfOk result (λ p. ((bs g : Bytes) → Holds line.now bs → (p.0.case, p.1) ≡ entered (bisection (machine D.hash) g) referee.case (entry_at bs))) }
-    ensures promise { IfOk result (λ p. ((bs : Bytes) → Holds line.now bs → KeepsAt (machine D.hash) referee.case (entry_at bs) p.0.case)) }
+    ensures value { IfOk result (λ p. ((g : Bytes) → (p.0.case, p.1) ≡ entered (bisection (machine D.hash) g) referee.case (entry_at line.now))) }
+    ensures promise { IfOk result (λ p. KeepsAt (machine D.hash) referee.case (entry_at line.now) p.0.case) }
 {
     let entry = read(heap, line)?;
     Ok(admit(referee, digester, &entry))
-}
-
-fn name(party: Party) -> &'static str
-    ensures { result.now ≡ name_of party }
-{
-    match party {
-        Party::Claimer => "claimer",
-        Party::Doubter => "doubter",
-    }
 }
 
 // Whose turn it is, or who has won.
 fn standing(heap: Global, phase: &Phase) -> Result<String, AllocError>
     ensures { IfOk result (λ s. string_bytes s ≡ stands_so phase.now) }
 {
-    let (word, party) = match (phase.turn(), phase) {
-        (Some(party), _) => ("turn", party),
-        (None, Phase::Over(winner)) => ("won", *winner),
-        (None, _) => unreachable(),
-    };
-    let name = name(party);
-    format!(in heap; "{word} {name}")
+    if let Phase::Over(winner) = phase {
+        return format!(in heap; "won {winner}");
+    }
+    let party = phase.turn().unwrap();
+    format!(in heap; "turn {party}")
 }
 
 // The line of an answer: the outcome, and how the case stands then.
@@ -169,11 +149,8 @@ pub fn answer(heap: Global, answer: Answer, phase: &Phase) -> Result<String, All
 {
     let standing = standing(heap, phase)?;
     match answer {
-        Answer::Taken => format!(in heap; "taken {standing}"),
-        Answer::Refused(refusal) => {
-            let number = refusal.number();
-            format!(in heap; "{number} {standing}")
-        }
+        Ok(()) => format!(in heap; "taken {standing}"),
+        Err(refusal) => format!(in heap; "{refusal} {standing}"),
     }
 }
 
@@ -184,13 +161,13 @@ pub fn is_answer(
     answer: Answer,
     phase: &Phase,
 ) -> Result<bool, AllocError>
-    ensures { IfOk result (λ b. ((bs : Bytes) → Holds line.now bs → b ≡ answers_so bs answer phase.now)) }
+    ensures { IfOk result (λ b. b ≡ answers_so line.now answer phase.now) }
 {
     let wanted = crate::answer(heap, answer, phase)?;
-    match line.text() {
-        Some(text) => Ok(same(without_cr(text), wanted.as_bytes())),
-        None => Ok(false),
-    }
+    Ok(
+        line.text()
+            .is_some_and(|text| same(without_cr(text), wanted.as_bytes())),
+    )
 }
 
 // Lines that were made of bytes, a day or a digest are read as these again.

@@ -1,62 +1,77 @@
 // A line as it comes in, byte by byte, of which no more is held than the longest line has.
-ghost use Rattle.std.specs.Prelude.{◌≡◌, true, [], ◌∷◌, ◌++◌, length, OnOk, ◌==◌};
+ghost use Rattle.std.specs.Prelude.{◌≡◌, [], ◌∷◌, ◌++◌, OnOk, OnErr, Some, IsTrue, ◌↔◌};
 ghost use Rattle.std.specs.Option.{option_map};
 ghost use Rattle.merkle.specs.Bytes.{Bytes};
-ghost use Rattle.record.specs.Held.{Holds, bounded};
+ghost use Rattle.record.specs.Held.{Holds, pushed};
 
 use std::alloc::{AllocError, Global};
+use std::marker::Model;
 
 // A step in hexadecimal after the word and a space, and a CR.
 const LONGEST: usize = 2155;
 
-// The bytes of a line so far, up to the longest line's, and whether there were more.
+// The bytes of a line so far; none once they are more than the longest line's.
 #[derive(Drop)]
 pub struct Line {
-    bytes: Vec<u8>,
-    long: bool,
+    heap: Global,
+    bytes: Option<Vec<u8>>,
+}
+
+impl Model for Line {
+    ghost use Rattle.std.specs.Prelude.{ℕ, ◌≤◌, List, IfSome, Option, vec_items, vec_len};
+    ghost use Rattle.std.specs.Option.{option_map};
+
+    ghost Value = { Option (List ℕ) };
+
+    ghost view = { λ l. option_map vec_items l.bytes };
+
+    ghost invariant = { λ l. IfSome l.bytes (λ v. vec_len v ≤ 2155) };
 }
 
 impl Line {
     pub fn new(heap: Global) -> Line
-        ensures { Holds result [] }
+        ensures { result ≡ Some [] }
     {
         Line {
-            bytes: Vec::new(heap),
-            long: false,
+            heap,
+            bytes: Some(Vec::new(heap)),
         }
     }
 
     // Another line begins.
     pub fn clear(&mut self)
-        ensures { Holds self.new [] }
+        ensures { self.new ≡ Some [] }
     {
-        self.bytes.clear();
-        self.long = false;
+        match &mut self.bytes {
+            Some(bytes) => bytes.clear(),
+            None => self.bytes = Some(Vec::new(self.heap)),
+        }
     }
 
     // The line goes on with a byte.
     pub fn push(&mut self, byte: u8) -> Result<(), AllocError>
-        ensures { OnOk result (((bs : Bytes) → Holds self.old bs → Holds self.new (bs ++ byte ∷ []))) }
+        ensures value { OnOk result (self.new ≡ pushed self.old byte) }
+        ensures holds { OnOk result ((bs : Bytes) → Holds self.old bs → Holds self.new (bs ++ byte ∷ [])) }
+        ensures failed { OnErr result (self.new ≡ self.old) }
     {
-        if self.bytes.len() < LONGEST {
-            self.bytes.push(byte)?;
-        } else {
-            self.long = true;
+        match &mut self.bytes {
+            Some(bytes) if bytes.len() < LONGEST => bytes.push(byte)?,
+            _ => self.bytes = None,
         }
         Ok(())
     }
 
     // Whether nothing of it has come.
     pub fn is_empty(&self) -> bool
-        ensures { (bs : Bytes) → Holds self.now bs → result ≡ (length bs == 0) }
+        ensures { IsTrue result ↔ self.now ≡ Some [] }
     {
-        self.bytes.is_empty()
+        self.bytes.as_ref().is_some_and(|bytes| bytes.is_empty())
     }
 
     // The whole line; none where it is too long.
     pub(crate) fn text(&self) -> Option<&[u8]>
-        ensures { (bs : Bytes) → Holds self.now bs → option_map (λ x. x.now) result ≡ bounded bs }
+        ensures { option_map (λ x. x.now) result ≡ self.now }
     {
-        if self.long { None } else { Some(&self.bytes) }
+        self.bytes.as_deref()
     }
 }

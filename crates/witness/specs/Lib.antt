@@ -1,3 +1,4 @@
 pub mod Witness
 pub mod Wire
 pub mod Laws
+pub mod Name

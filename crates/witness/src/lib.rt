@@ -7,6 +7,7 @@ ghost use Rattle.merkle.specs.Seen.{seen_all};
 ghost use Rattle.merkle.specs.Strings.{two_bytes};
 ghost use Rattle.machine.specs.Machine.{State, stores as storing, step, digest};
 ghost use Rattle.witness.specs.Witness.{Valid, Collides, witness as shown, accepts, verdict, shaped, fits, root_next, next_part, state_part, state_fits, store_part, instruction_of, digested, first_difference, Found};
+ghost use Rattle.witness.specs.Name.{name};
 ghost use Rattle.witness.specs.Laws.{Agree, MachineLawful};
 ghost use Rattle.witness.specs.declared.Party.TheVariants.{Claimer};
 
@@ -16,11 +17,23 @@ use machine::{Cpu, Instruction, place_of};
 use merkle::{
     Digest, Digester, Opening, Preimage, memory_digest, shape, state_digest, state_preimage,
 };
+use std::fmt;
 
-#[derive(Clone, Copy)]
+#[derive(Clone, Copy, Debug, PartialEq, Eq)]
 pub enum Party {
     Claimer,
     Doubter,
+}
+
+impl fmt::Display for Party {
+    ghost output = { λ party. Some (name party) };
+
+    fn fmt<W: fmt::Write>(&self, f: &mut fmt::Formatter<W>) -> fmt::Result {
+        f.write_str(match self {
+            Party::Claimer => "claimer",
+            Party::Doubter => "doubter",
+        })
+    }
 }
 
 // What is shown of a step: place, register, the memory's digest, and openings of the place and of the instruction's place.

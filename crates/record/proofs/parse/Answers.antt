@@ -1,20 +1,27 @@
-use Rattle.std.proofs.Common.{◌≡◌, IfOk, refl, ◌∙◌, subst}
-use Rattle.record.specs.Record.{held}
+use Rattle.std.proofs.Common.{Some, None, refl, sym, ◌∙◌}
+use Rattle.record.proofs.Lines.{after_is}
 use Rattle.record.proofs.Entries.{entry_is}
 use Rattle.record.proofs.parse.Goals as goal
 
 pub returns-in-Some : goal.returns-in-Some
 returns-in-Some c =
-    subst (λ x. IfOk c.sent.result (λ e. held e ≡ x)) (entry_is c.args.line.now _ c.without_cr-line.ensures c.in-Some.ensures refl refl) c.sent.ensures
+    let read = entry_is c.args.line.now _ c.without_cr-line.ensures (after_is _ _ (Some c.in-Some.digits) c.in-Some.ensures.cases) refl refl in
+    rw (sym read) c.sent.ensures
 
-pub returns-in-Some-after : goal.returns-in-Some-after
-returns-in-Some-after c =
-    subst (λ x. IfOk c.sent-in-Some-after.result (λ e. held e ≡ x)) (entry_is c.args.line.now _ c.without_cr-line.ensures c.in_default.ensures c.in-Some-after.ensures refl)
-    c.sent-in-Some-after.ensures
+pub returns-in-Some-strip_prefix : goal.returns-in-Some-strip_prefix
+returns-in-Some-strip_prefix c =
+    let other = after_is _ _ None c.in_default.ensures.cases in
+    let read = entry_is c.args.line.now _ c.without_cr-line.ensures other (after_is _ _ (Some c.in-Some-strip_prefix.digits) c.in-Some-strip_prefix.ensures.cases) refl in
+    rw (sym read) c.sent-in-Some-strip_prefix.ensures
 
-pub returns-in-Some-after-2 : goal.returns-in-Some-after-2
-returns-in-Some-after-2 c =
-    c.day.ensures ∙ entry_is c.args.line.now _ c.without_cr-line.ensures c.in_default.ensures c.in_default-after.ensures c.in-Some-after-2.ensures
+pub returns-in-Some-strip_prefix-2 : goal.returns-in-Some-strip_prefix-2
+returns-in-Some-strip_prefix-2 c =
+    let claimer = after_is _ _ None c.in_default.ensures.cases in
+    let doubter = after_is _ _ None c.in_default-strip_prefix.ensures.cases in
+    c.day.ensures ∙ entry_is c.args.line.now _ c.without_cr-line.ensures claimer doubter (after_is _ _ (Some c.in-Some-strip_prefix-2.digits) c.in-Some-strip_prefix-2.ensures.cases)
 
 pub returns : goal.returns
-returns c = entry_is c.args.line.now _ c.without_cr-line.ensures c.in_default.ensures c.in_default-after.ensures c.in_default-after-2.ensures
+returns c =
+    let claimer = after_is _ _ None c.in_default.ensures.cases in
+    let doubter = after_is _ _ None c.in_default-strip_prefix.ensures.cases in
+    entry_is c.args.line.now _ c.without_cr-line.ensures claimer doubter (after_is _ _ None c.in_default-strip_prefix-2.ensures.cases)

@@ -1,0 +1,38 @@
+// Lines as they are read from an input.
+ghost use Rattle.std.specs.Prelude.{◌≡◌, false, [], drop, IfOk, IfSome, Some, slice_get};
+ghost use Rattle.record.specs.Held.{ReadsLine};
+
+use crate::Line;
+use std::alloc::AllocError;
+use std::io;
+use std::io::{BufRead, ErrorKind};
+
+// The next byte of an input; none at its end.
+fn next_byte<R: BufRead>(input: &mut R) -> io::Result<Option<u8>>
+    ensures { IfOk result (λ byte. IfSome (R.remaining input.old) (λ xs. (byte ≡ slice_get xs 0) × (R.remaining input.new ≡ Some (drop 1 xs)))) }
+{
+    let byte = input.fill_buf()?.first().copied();
+    if byte.is_some() {
+        input.consume(1);
+    }
+    Ok(byte)
+}
+
+// Reads a line; false at the end of the input. The last line may lack its line feed.
+pub fn read_line<R: BufRead, E: From<io::Error> + From<AllocError>>(
+    input: &mut R,
+    line: &mut Line,
+) -> Result<bool, E>
+    ensures known { IfOk result (λ more. IfSome (R.remaining input.old) (λ xs. ReadsLine xs (R.remaining input.new) more line.new)) }
+    ensures end { IfOk result (λ more. more ≡ false → line.new ≡ Some []) }
+{
+    line.clear();
+    for _ in 0..u64::MAX {
+        match next_byte(input)? {
+            Some(b'\n') => return Ok(true),
+            Some(byte) => line.push(byte)?,
+            None => return Ok(!line.is_empty()),
+        }
+    }
+    Err(E::from(io::Error::from(ErrorKind::TimedOut)))
+}
