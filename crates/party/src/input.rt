@@ -1,24 +1,8 @@
-// What is read: a program file, and lines.
-ghost use Rattle.std.specs.Prelude.{◌≤◌, IfOk, vec_len};
-
+// The lines of the record.
 use crate::failure::Failure;
 use record::Line;
-use std::io::{BufRead, BufReader, Read, Stdin};
-use std::{fs, io};
-
-// One word more than a program has: whoever has read so much knows that a file is too long.
-const MOST_BYTES: usize = 262148;
-
-// The bytes of a file, or its first 262,148 where it has more.
-pub(crate) fn read_file(rt: &HostRuntime, path: &str) -> io::Result<Vec<u8>>
-    ensures { IfOk result (λ v. vec_len v ≤ 262148) }
-{
-    let file = fs::open(rt, path)?;
-    let mut bytes = Vec::new(rt.alloc());
-    file.take(MOST_BYTES as u64).read_to_end(&mut bytes)?;
-    bytes.truncate(MOST_BYTES);
-    Ok(bytes)
-}
+use std::io;
+use std::io::{BufRead, BufReader, Stdin};
 
 // The next byte of the input; none at its end.
 fn next_byte(input: &mut BufReader<Stdin>) -> io::Result<Option<u8>> {
