@@ -7,9 +7,8 @@ mod seat;
 
 use digests::Sha256;
 use failure::Failure;
-use input::read_line;
+use input::Exchange;
 use parties::{Player, Role};
-use record::Line;
 use seat::Seat;
 use std::env;
 use std::io::BufReader;
@@ -59,17 +58,16 @@ fn play(rt: &HostRuntime) -> Result<(), Failure> {
     let mut seat = enlist(rt)?;
     seat.speak()?;
     let mut input = BufReader::new(rt.alloc(), rt.stdin())?;
-    let mut line = Line::new(rt.alloc());
-    let mut answer = Line::new(rt.alloc());
-    // A count that no record reaches: it ends the loop by its type.
+    let mut exchange = Exchange::new(rt.alloc());
+    // It waits on input: the record ends the loop, never the count.
     for pair in 0..u64::MAX / 2 {
-        if !read_line(&mut input, &mut line)? || !read_line(&mut input, &mut answer)? {
+        if !exchange.read(&mut input)? {
             return Ok(());
         }
-        if pair == 0 && seat.opens(&line, &answer)? {
+        if pair == 0 && seat.opens(&exchange)? {
             continue;
         }
-        seat.follow(&line, &answer, 2 * pair + 1)?;
+        seat.follow(&exchange, 2 * pair + 1)?;
         if seat.is_over() {
             return Ok(());
         }

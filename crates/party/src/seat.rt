@@ -1,5 +1,6 @@
 // A party at its seat: what it reads in the record, and what it prints.
 use crate::failure::Failure;
+use crate::input::Exchange;
 use digests::Sha256;
 use dispute::{Answer, Message, Phase, Refusal};
 use merkle::{Digester, same};
@@ -54,8 +55,8 @@ impl Seat<'_> {
     }
 
     // The first line of a record may open the case; true where it did.
-    pub(crate) fn opens(&mut self, line: &Line, answer: &Line) -> Result<bool, Failure> {
-        let Some(start) = record::opening(self.rt.alloc(), line)? else {
+    pub(crate) fn opens(&mut self, exchange: &Exchange) -> Result<bool, Failure> {
+        let Some(start) = record::opening(self.rt.alloc(), &exchange.line)? else {
             return Ok(false);
         };
         if let Phase::Claiming(own) = &self.player.referee.case.phase {
@@ -66,7 +67,7 @@ impl Seat<'_> {
             }
         }
         self.player.open(start);
-        self.reads(answer, Answer::Taken)
+        self.reads(&exchange.answer, Answer::Taken)
     }
 
     // Prints the two strings with one digest by which the party has lost, if there are such.
@@ -93,29 +94,22 @@ impl Seat<'_> {
     }
 
     // What follows from a line of the record, which has this number, and its answer.
-    pub(crate) fn follow(
-        &mut self,
-        line: &Line,
-        answer: &Line,
-        number: u64,
-    ) -> Result<(), Failure> {
-        if self.refuses(answer)? {
+    pub(crate) fn follow(&mut self, exchange: &Exchange, number: u64) -> Result<(), Failure> {
+        if self.refuses(&exchange.answer)? {
             return Ok(());
         }
-        let entry = record::read(self.rt.alloc(), line)?;
+        let entry = record::read(self.rt.alloc(), &exchange.line)?;
         let before = self.player.referee.case.phase;
         let Answer::Taken = self.player.hear(&mut Sha256, &entry) else {
             return Err(Failure::Record(number));
         };
-        if !self.reads(answer, Answer::Taken)? {
+        if !self.reads(&exchange.answer, Answer::Taken)? {
             return Err(Failure::Record(number));
         }
-        match (self.player.referee.case.phase, self.player.role, &entry) {
-            (Phase::Over(Party::Claimer), Role::Doubter, _) => self.print_collision(
-                &before, &entry,
-            ),
-            (Phase::Over(_), _, _) => Ok(()),
-            (_, _, Entry::Sent(_, _)) => self.speak(),
+        match (self.player.referee.case.phase, self.player.role) {
+            (Phase::Over(Party::Claimer), Role::Doubter) => self.print_collision(&before, &entry),
+            (Phase::Over(_), _) => Ok(()),
+            _ if matches!(entry, Entry::Sent(_, _)) => self.speak(),
             _ => Ok(()),
         }
     }

@@ -24,6 +24,7 @@ fn next_byte(input: &mut BufReader<Stdin>) -> io::Result<Option<u8>> {
 // Reads a line; false at the end of the input. The last line may lack its line feed.
 fn read_line(input: &mut BufReader<Stdin>, line: &mut Line) -> Result<bool, Failure> {
     line.clear();
+    // It waits on input: the line ends the loop, never the count.
     for _ in 0..u64::MAX {
         match next_byte(input)? {
             Some(b'\n') => return Ok(true),
@@ -59,7 +60,7 @@ fn hear(rt: &HostRuntime) -> Result<(), Failure> {
     let start = record::opening(rt.alloc(), &line)?.ok_or(Failure::NoCase)?;
     let mut referee = Referee::open(start);
     print_answer(rt, Answer::Taken, &referee)?;
-    // A count that no input reaches: it ends the loop by its type.
+    // It waits on input: its end ends the loop, never the count.
     for _ in 0..u64::MAX {
         if !read_line(&mut input, &mut line)? {
             return Ok(());

@@ -32,9 +32,8 @@ fn answer(rt: &HostRuntime) -> Result<String, Failure> {
     match files::read(rt, path.as_str()) {
         Ok(file) => {
             let mut progress = Progress::new(rt, "run", steps);
-            line::after(rt.alloc(), &file, steps, &mut Sha256, &mut progress).map_err(
-                |e| Failure::Program(path, e),
-            )
+            let line = line::after(rt.alloc(), &file, steps, &mut Sha256, &mut progress);
+            line.map_err(|e| Failure::Program(path, e))
         }
         Err(e) => Err(Failure::File(path, e)),
     }
