@@ -1,5 +1,5 @@
 -- A weak digest, for tests: 32 times the sum of the bytes, modulo 256.
-use Rattle.std.specs.Prelude.{ℕ, ◌+◌, ◌%◌, replicate}
+use Rattle.std.specs.Prelude.{◌+◌, ◌%◌, replicate}
 use Rattle.std.specs.List.{fold}
 use Rattle.std.proofs.Common.{rules}
 use Rattle.merkle.specs.Bytes.{Bytes, Whole, all_bytes}

@@ -1,8 +1,7 @@
 -- A doubter that has lost by a step has a collision in hand.
-use Rattle.std.proofs.Common.{◌≡◌, ℕ, cond, sym, ap, ◌∙◌, subst, inl, inr, arith}
+use Rattle.std.proofs.Common.{subst, inl, inr, arith}
 use Rattle.merkle.specs.Bytes.{Hash, Whole}
 use Rattle.machine.specs.Machine.{State, run}
-use Rattle.witness.specs.declared.Party.TheVariants.{Claimer, Doubter}
 use Rattle.witness.specs.declared.Witness.{Witness}
 use Rattle.witness.specs.Witness.{Found}
 use Rattle.witness.specs.Laws.{machine}
@@ -20,6 +19,6 @@ found h whole s p o lost =
       | inr x ↦ absurd (lost.unexcused x)
       | inl firm ↦ elim (step_refused S law s lost.valid p o (subst (Firm S s) lost.proving firm)) [
         | inr x ↦ subst (λ t. Found h t o) (own_run h p.from s) x
-        | inl won ↦ (let e = sym (ap (λ b. cond b Claimer Doubter) lost.accepted) ∙ won in let z : ◌≡◌ {A = ℕ} 0 1 = cc in absurd (omega arith))
+        | inl won ↦ (let e = lost.accepted in grind arith)
       ]
     ]

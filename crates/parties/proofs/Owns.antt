@@ -1,5 +1,5 @@
 -- A party's own run, as the promise speaks of it.
-use Rattle.std.proofs.Common.{◌≡◌, ℕ, zero, suc, ◌^◌, ◌≤◌, refl, arith, pow_mono}
+use Rattle.std.proofs.Common.{◌≡◌, ℕ, zero, suc, refl}
 use Rattle.merkle.specs.Bytes.{Hash}
 use Rattle.machine.specs.Machine.{State, step}
 use Rattle.machine.specs.Machine as machines
@@ -10,7 +10,3 @@ pub own_run : (h : Hash) (n : ℕ) (s : State) → systems.run (machine h) n s �
 unfolding machines.run systems.run
 own_run h zero s = refl
 own_run h (suc n) s = own_run h n (step s)
-
--- steps within 2 ^ 32 have an exponent of at most 32
-pub small : (n : ℕ) → 2 ^ n ≤ 4294967296 → n ≤ 32
-small n l = grind (arith, pow_mono {i = 33} {j = n})

@@ -26,12 +26,11 @@ pub struct Player {
 }
 
 // 2^n.
-#[tactic(auto, using(crate::proofs::Owns::small))]
 fn power(n: u8) -> u64
     requires { 2 ^ n ≤ 4294967296 }
     ensures { result ≡ 2 ^ n }
 {
-    1 << n
+    2u64.pow(u32::from(n))
 }
 
 impl Player {

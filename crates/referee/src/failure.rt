@@ -53,4 +53,8 @@ impl Report for Failure {
     fn is_usage(&self) -> bool {
         matches!(self, Failure::Arguments | Failure::NoCase)
     }
+
+    fn number(&self) -> Option<u8> {
+        None
+    }
 }

@@ -15,9 +15,7 @@ pub trait Report: fmt::Display {
     fn is_usage(&self) -> bool;
 
     // The number that goes to standard output, if there is one.
-    fn number(&self) -> Option<u8> {
-        None
-    }
+    fn number(&self) -> Option<u8>;
 }
 
 // The reason, and the usage where it helps, on standard error; the number on standard output.
