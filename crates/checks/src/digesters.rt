@@ -1,18 +1,15 @@
 // Digests to test with: a weak one, and one that counts.
 ghost use Rattle.std.specs.Prelude.{◌≡◌, ℕ, ◌+◌, ◌%◌, ◌^◌};
-ghost use Rattle.checks.specs.Weak.{sum_from, weak, weak_whole};
+ghost use Rattle.std.specs.List.{fold};
+ghost use Rattle.checks.specs.Weak.{weak, weak_whole};
 
 use merkle::{Digest, Digester};
 
 // The sum of the bytes, modulo 256.
 fn sum(bytes: &[u8]) -> u8
-    ensures { result ≡ sum_from 0 bytes.now }
+    ensures { result ≡ fold (λ s x. (s + x) % 256) 0 bytes.now }
 {
-    let mut sum: u8 = 0;
-    for byte in bytes {
-        sum = sum.wrapping_add(*byte);
-    }
-    sum
+    bytes.iter().fold(0, |sum, byte| sum.wrapping_add(*byte))
 }
 
 // A digest under which collisions are everywhere.

@@ -14,10 +14,7 @@ const MOVES: [u8; 28] = [
 ];
 
 fn memory(heap: Global) -> Result<Vec<u32>, Fail> {
-    match program::load(heap, &MOVES) {
-        Ok(memory) => Ok(memory),
-        Err(_) => Err(Fail::new("no program")),
-    }
+    program::load(heap, &MOVES).map_err(|_| Fail::new("no program"))
 }
 
 // The state after so many steps is the one that a run from the start gives, and so is its digest.
@@ -28,9 +25,9 @@ fn found(rt: &impl Abort, heap: Global, history: &History, steps: u64) -> Result
         place: 0,
         register: 0,
     };
-    let Some(end) = machine::run(&mut memory, start, steps, &mut Unwatched) else {
-        return Err(Fail::new("refused"));
-    };
+    let end = machine::run(&mut memory, start, steps, &mut Unwatched).ok_or_else(|| Fail::new(
+        "refused",
+    ))?;
     assert_eq!(rt; cpu.place, end.place);
     assert_eq!(rt; cpu.register, end.register);
     assert!(rt; words == memory);
@@ -44,9 +41,7 @@ fn found(rt: &impl Abort, heap: Global, history: &History, steps: u64) -> Result
 #[test]
 fn states_are_found(rt: HostRuntime) -> Result<(), Fail> {
     let heap = rt.alloc();
-    let Some(mut history) = History::new(heap, memory(heap)?) else {
-        return Err(Fail::new("refused"));
-    };
+    let mut history = History::new(heap, memory(heap)?).ok_or_else(|| Fail::new("refused"))?;
     found(&rt, heap, &history, 1_048_577)?;
     history.extend(1_048_576, &mut Unwatched)?;
     history.extend(3_145_727, &mut Unwatched)?;

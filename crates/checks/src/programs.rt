@@ -50,10 +50,7 @@ fn published_digests(rt: HostRuntime) -> Result<(), Fail> {
 const STORE: [u8; 12] = [0, 7, 0, 7, 0, 2, 0, 100, 0, 5, 0, 0];
 
 fn after(heap: Global, file: &[u8], steps: u64) -> Result<String, Fail> {
-    match line::after(heap, file, steps, &mut Sha256, &mut Unwatched) {
-        Ok(line) => Ok(line),
-        Err(_) => Err(Fail::new("no line")),
-    }
+    line::after(heap, file, steps, &mut Sha256, &mut Unwatched).map_err(|_| Fail::new("no line"))
 }
 
 #[test]
@@ -88,16 +85,14 @@ fn lines(rt: HostRuntime) -> Result<(), Fail> {
 
 #[test]
 fn register_is_stored(rt: HostRuntime) -> Result<(), Fail> {
-    let Ok(mut memory) = program::load(rt.alloc(), &STORE) else {
-        return Err(Fail::new("no program"));
-    };
+    let mut memory = program::load(rt.alloc(), &STORE).map_err(|_| Fail::new("no program"))?;
     let start = Cpu {
         place: 0,
         register: 0,
     };
-    let Some(cpu) = machine::run(&mut memory, start, 3, &mut Unwatched) else {
-        return Err(Fail::new("refused"));
-    };
+    let cpu = machine::run(&mut memory, start, 3, &mut Unwatched).ok_or_else(|| Fail::new(
+        "refused",
+    ))?;
     assert_eq!(rt; cpu.place, 0);
     assert_eq!(rt; cpu.register, 7);
     assert_eq!(rt; memory.get(100).copied(), Some(7));
@@ -117,10 +112,7 @@ fn short_memory_is_refused(rt: HostRuntime) {
 }
 
 fn refusal(heap: Global, file: &[u8]) -> Option<u8> {
-    match program::load(heap, file) {
-        Ok(_) => None,
-        Err(e) => e.number(),
-    }
+    program::load(heap, file).err()?.number()
 }
 
 #[test]

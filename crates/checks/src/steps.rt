@@ -19,9 +19,7 @@ struct Step {
 fn one_step<D: Digester>(digester: &mut D, memory: &mut [u32], cpu: Cpu) -> Result<Step, Fail> {
     let start = machine::digest(digester, cpu, memory);
     let witness = Witness::of(digester, cpu, memory);
-    let Some(next) = machine::run(memory, cpu, 1, &mut Unwatched) else {
-        return Err(Fail::new("refused"));
-    };
+    let next = machine::run(memory, cpu, 1, &mut Unwatched).ok_or_else(|| Fail::new("refused"))?;
     let end = machine::digest(digester, next, memory);
     Ok(Step {
         witness,
@@ -39,9 +37,9 @@ fn claimer_wins<D: Digester>(digester: &mut D, step: &Step) -> bool {
 
 // A memory whose first word is an instruction, with 5 at place 100.
 fn memory(heap: Global, instruction: u32) -> Result<Vec<u32>, Fail> {
-    let Ok(mut memory) = program::load(heap, &instruction.to_be_bytes()) else {
-        return Err(Fail::new("no program"));
-    };
+    let mut memory = program::load(heap, &instruction.to_be_bytes()).map_err(|_| Fail::new(
+        "no program",
+    ))?;
     if let Some(word) = memory.get_mut(100) {
         *word = 5;
     }
@@ -102,19 +100,18 @@ fn with(step: &Step, witness: Witness) -> Step {
 
 // The opening with another word.
 fn reworded(opening: &Opening, word: u32) -> Opening {
-    let siblings = opening.siblings;
-    Opening { word, siblings }
+    Opening { word, ..*opening }
 }
 
 // The opening with another sibling on a level.
 fn damaged(opening: &Opening, level: usize) -> Opening {
     let mut siblings = opening.siblings;
-    if level < 16 {
-        siblings[level] = [7; 32];
+    if let Some(sibling) = siblings.get_mut(level) {
+        *sibling = [7; 32];
     }
     Opening {
-        word: opening.word,
         siblings,
+        ..*opening
     }
 }
 
@@ -193,13 +190,11 @@ fn bytes_are_read_back(rt: HostRuntime) -> Result<(), Fail> {
     };
     let honest = one_step(&mut Sha256, &mut memory, cpu)?;
     let bytes = honest.witness.to_bytes();
-    assert!(rt; merkle::same(&bytes[0..8], &[0, 0, 0, 0, 0, 0, 0, 9]));
-    assert!(rt; merkle::same(&bytes[40..44], &[0, 2, 0, 100]));
-    assert!(rt; merkle::same(&bytes[556..560], &[0, 0, 0, 5]));
-    let Some(back) = Witness::from_bytes(&bytes) else {
-        return Err(Fail::new("refused"));
-    };
-    assert!(rt; merkle::same(&back.to_bytes(), &bytes));
+    assert_eq!(rt; &bytes[0..8], [0, 0, 0, 0, 0, 0, 0, 9].as_slice());
+    assert_eq!(rt; &bytes[40..44], [0, 2, 0, 100].as_slice());
+    assert_eq!(rt; &bytes[556..560], [0, 0, 0, 5].as_slice());
+    let back = Witness::from_bytes(&bytes).ok_or_else(|| Fail::new("refused"))?;
+    assert!(rt; back.to_bytes() == bytes);
     assert!(rt; claimer_wins(&mut Sha256, &with(&honest, back)));
     Ok(())
 }
@@ -235,10 +230,10 @@ fn collision_is_found(rt: HostRuntime) -> Result<(), Fail> {
     };
     assert!(rt; claimer_wins(&mut Weak, &wrong));
     assert!(rt; own.difference(&mut Weak, &own).is_none());
-    let Some((one, other)) = cheat.difference(&mut Weak, &own) else {
-        return Err(Fail::new("nothing found"));
-    };
-    assert!(rt; merkle::same(one.as_bytes(), &[0, 0, 0, 0, 1]));
-    assert!(rt; merkle::same(other.as_bytes(), &[0, 0, 0, 1, 0]));
+    let (one, other) = cheat
+        .difference(&mut Weak, &own)
+        .ok_or_else(|| Fail::new("nothing found"))?;
+    assert_eq!(rt; one.as_bytes(), [0, 0, 0, 0, 1].as_slice());
+    assert_eq!(rt; other.as_bytes(), [0, 0, 0, 1, 0].as_slice());
     Ok(())
 }

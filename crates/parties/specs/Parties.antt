@@ -1,5 +1,5 @@
 -- What a party has to do, by its role, and what comes of it.
-use Rattle.std.specs.Prelude.{◌≡◌, ℕ, ◌^◌, true, List, [], ◌∷◌, ◌++◌, Some, vec_items, Option}
+use Rattle.std.specs.Prelude.{◌≡◌, ℕ, ◌^◌, Bool, ◌&&◌, true, List, [], ◌∷◌, ◌++◌, Some, vec_items, Option, nat_le}
 use Rattle.machine.specs.Machine.{State, start}
 use Rattle.system.specs.System.{System}
 use Rattle.witness.specs.declared.Party as parties
@@ -23,10 +23,10 @@ abbrev pub side : Role → parties.Party
 side (Claimer n) = sides.Claimer
 side Doubter = sides.Doubter
 
--- The n of a claimer's case, about 2 ^ n steps; a doubter has none, and 1 stands for it.
-abbrev pub exponent : Role → ℕ
-exponent (Claimer n) = n
-exponent Doubter = 1
+-- A claimer's case is about 2 ^ n steps, n from 1 to 32.
+abbrev pub in_range : Role → Bool
+in_range (Claimer n) = nat_le 1 n && nat_le n 32
+in_range Doubter = true
 
 -- The steps that a claim is about, while it can be doubted.
 abbrev pub claimed_span : Phase → ℕ

@@ -1,18 +1,18 @@
 // A party at play: its role, its own run, and the case as the record has it.
-ghost use Rattle.std.specs.Prelude.{◌≡◌, ◌/◌, ◌≤◌, max, IfOk, vec_len, MatchOption, OnOk, ◌≢◌};
+ghost use Rattle.std.specs.Prelude.{◌≡◌, ◌/◌, ◌^◌, ◌≤◌, max, IfOk, IsTrue, vec_len, MatchOption, OnOk, ◌≢◌};
 ghost use Rattle.merkle.specs.Bytes.{Bytes, Hash};
 ghost use Rattle.witness.specs.Laws.{machine};
 ghost use Rattle.dispute.specs.Referee.{opening};
 ghost use Rattle.dispute.specs.Bisection.{bisection, game};
 ghost use Rattle.record.specs.Record.{entered, held};
 ghost use Rattle.history.specs.Keeping.{spacing};
-ghost use Rattle.parties.specs.Parties.{own, exponent, span_of, strategy, Plays};
+ghost use Rattle.parties.specs.Parties.{own, span_of, in_range, strategy, Plays};
 
-use crate::{Role, power, says};
+use crate::Role;
 use dispute::{Answer, Message, Phase, Referee};
 use history::History;
 use machine::Watch;
-use merkle::{Digest, Digester};
+use merkle::{Digest, Digester, same};
 use record::{Entry, admit};
 use std::alloc::{AllocError, Global};
 use witness::Witness;
@@ -22,8 +22,15 @@ pub struct Player {
     pub role: Role,
     pub history: History,
     pub referee: Referee,
-    ghost positive: { 1 ≤ exponent role },
-    ghost small: { exponent role ≤ 32 },
+    ghost ok: { IsTrue (in_range role) },
+}
+
+// 2^n.
+fn power(n: u8) -> u64
+    requires { 2 ^ n ≤ 4294967296 }
+    ensures { result ≡ 2 ^ n }
+{
+    2u64.pow(u32::from(n))
 }
 
 impl Player {
@@ -35,9 +42,9 @@ impl Player {
         role: Role,
         program: Vec<u32>,
     ) -> Result<Option<Player>, AllocError>
-        ensures { IfOk result (λ o. MatchOption o (1 ≤ exponent role → exponent role ≤ 32 → vec_len program ≢ 65536) (λ x. (x.role ≡ role) × (x.history.program ≡ program) × (x.referee.case ≡ opening (game (machine D.hash) (own x.history))))) }
+        ensures { IfOk result (λ o. MatchOption o (IsTrue (in_range role) → vec_len program ≢ 65536) (λ x. (x.role ≡ role) × (x.history.program ≡ program) × (x.referee.case ≡ opening (game (machine D.hash) (own x.history))))) }
     {
-        if role.exponent() < 1 || role.exponent() > 32 {
+        if !role.is_in_range() {
             return Ok(None);
         }
         let Some(history) = History::new(heap, program) else {
@@ -74,12 +81,9 @@ impl Player {
     pub fn span(&self) -> u64
         ensures { result ≡ span_of self.now.role self.now.referee.case.phase }
     {
-        match self.role {
-            Role::Claimer(n) => power(n),
-            Role::Doubter => match self.referee.case.phase {
-                Phase::Doubting(_, n, _) => power(n),
-                _ => 0,
-            },
+        match (self.role, self.referee.case.phase) {
+            (Role::Claimer(n), _) | (Role::Doubter, Phase::Doubting(_, n, _)) => power(n),
+            (Role::Doubter, _) => 0,
         }
     }
 
@@ -93,11 +97,51 @@ impl Player {
         self.history.extend(steps, watch)
     }
 
+    // What the strategy of the role has the party send now, if anything.
+    #[tactic(auto, using(crate::proofs::Owns::own_run))]
+    fn strategy<D: Digester>(
+        &self,
+        digester: &mut D,
+    ) -> Result<Option<Message<Witness>>, AllocError>
+        ensures { IfOk result (λ m. m ≡ strategy (machine D.hash) (own self.now.history) self.now.role self.now.referee.case.phase) }
+    {
+        let history = &self.history;
+        let phase = self.referee.case.phase;
+        match (self.role, phase) {
+            (Role::Claimer(n), Phase::Claiming(_)) => {
+                let claimed = history.digest_at(digester, power(n))?;
+                Ok(Some(Message::Claim(n, claimed)))
+            }
+            (Role::Claimer(_), Phase::Bisecting(k, dispute)) => {
+                let middle = history.digest_at(digester, u64::from(dispute.from) + power(k))?;
+                Ok(Some(Message::Middle(middle)))
+            }
+            (Role::Claimer(_), Phase::Proving(dispute)) => {
+                let witness = history.witness_at(digester, u64::from(dispute.from))?;
+                Ok(Some(Message::Step(witness)))
+            }
+            (Role::Doubter, Phase::Doubting(_, n, claimed)) => {
+                let own = history.digest_at(digester, power(n))?;
+                Ok((!same(&claimed, &own)).then_some(Message::Doubt))
+            }
+            (Role::Doubter, Phase::Answering(k, dispute, middle)) => {
+                let own = history.digest_at(digester, u64::from(dispute.from) + power(k))?;
+                if same(&middle, &own) {
+                    Ok(Some(Message::Right))
+                } else {
+                    Ok(Some(Message::Wrong))
+                }
+            }
+            _ => Ok(None),
+        }
+    }
+
     // What the party has to send now, if anything.
+    #[tactic(auto, using(crate::proofs::Played::all_play))]
     pub fn say<D: Digester>(&self, digester: &mut D) -> Result<Option<Message<Witness>>, AllocError>
         ensures value { IfOk result (λ m. m ≡ strategy (machine D.hash) (own self.now.history) self.now.role self.now.referee.case.phase) }
         ensures promise { IfOk result (λ m. Plays (machine D.hash) self.now.role self.now.referee.case m) }
     {
-        says(&self.history, digester, self.role, &self.referee)
+        self.strategy(digester)
     }
 }

@@ -2,9 +2,7 @@
 use std::alloc::AllocError;
 use std::{fmt, io};
 use text::program::LoadError;
-
-const USAGE: &str =
-    "usage: party FILE claimer N, or party FILE doubter    (FILE: a program, N: from 1 to 32; the record of the case on standard input)";
+use text::report::Report;
 
 #[derive(Drop)]
 pub(crate) enum Failure {
@@ -50,20 +48,24 @@ impl From<AllocError> for Failure {
     }
 }
 
-impl Failure {
-    // The reason, and the usage where it helps, on standard error; the number of a bad program on standard output.
-    pub(crate) fn tell(&self, rt: &HostRuntime) {
-        let _ = eprintln!(rt; "party: {self}");
+impl Report for Failure {
+    const PROGRAM: &'static str = "party";
+
+    const USAGE: &'static str =
+        "usage: party FILE claimer N, or party FILE doubter    (FILE: a program, N: from 1 to 32; the record of the case on standard input)";
+
+    fn is_usage(&self) -> bool {
+        matches!(
+            self,
+            Failure::Arguments | Failure::Exponent | Failure::File(_, _)
+        )
+    }
+
+    // That of a bad program.
+    fn number(&self) -> Option<u8> {
         match self {
-            Failure::Arguments | Failure::Exponent | Failure::File(_, _) => {
-                let _ = eprintln!(rt; "{USAGE}");
-            }
-            Failure::Program(_, e) => {
-                if let Some(number) = e.number() {
-                    let _ = println!(rt; "{number}");
-                }
-            }
-            _ => {}
+            Failure::Program(_, e) => e.number(),
+            _ => None,
         }
     }
 }

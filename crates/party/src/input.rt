@@ -1,24 +1,9 @@
-// What is read: a program file, and lines.
-ghost use Rattle.std.specs.Prelude.{◌≤◌, IfOk, vec_len};
-
+// What is read of the record.
 use crate::failure::Failure;
 use record::Line;
-use std::io::{BufRead, BufReader, Read, Stdin};
-use std::{fs, io};
-
-// One word more than a program has: whoever has read so much knows that a file is too long.
-const MOST_BYTES: usize = 262148;
-
-// The bytes of a file, or its first 262,148 where it has more.
-pub(crate) fn read_file(rt: &HostRuntime, path: &str) -> io::Result<Vec<u8>>
-    ensures { IfOk result (λ v. vec_len v ≤ 262148) }
-{
-    let file = fs::open(rt, path)?;
-    let mut bytes = Vec::new(rt.alloc());
-    file.take(MOST_BYTES as u64).read_to_end(&mut bytes)?;
-    bytes.truncate(MOST_BYTES);
-    Ok(bytes)
-}
+use std::alloc::Global;
+use std::io;
+use std::io::{BufRead, BufReader, Stdin};
 
 // The next byte of the input; none at its end.
 fn next_byte(input: &mut BufReader<Stdin>) -> io::Result<Option<u8>> {
@@ -30,8 +15,9 @@ fn next_byte(input: &mut BufReader<Stdin>) -> io::Result<Option<u8>> {
 }
 
 // Reads a line; false at the end of the input. The last line may lack its line feed.
-pub(crate) fn read_line(input: &mut BufReader<Stdin>, line: &mut Line) -> Result<bool, Failure> {
+fn read_line(input: &mut BufReader<Stdin>, line: &mut Line) -> Result<bool, Failure> {
     line.clear();
+    // It waits on input: the line ends the loop, never the count.
     for _ in 0..u64::MAX {
         match next_byte(input)? {
             Some(b'\n') => return Ok(true),
@@ -40,4 +26,26 @@ pub(crate) fn read_line(input: &mut BufReader<Stdin>, line: &mut Line) -> Result
         }
     }
     Ok(false)
+}
+
+// A line of the record, and the referee's answer to it.
+#[derive(Drop)]
+pub(crate) struct Exchange {
+    pub(crate) line: Line,
+    pub(crate) answer: Line,
+}
+
+impl Exchange {
+    // Nothing has been read.
+    pub(crate) fn new(heap: Global) -> Exchange {
+        Exchange {
+            line: Line::new(heap),
+            answer: Line::new(heap),
+        }
+    }
+
+    // Reads the next one; false at the end of the record.
+    pub(crate) fn read(&mut self, input: &mut BufReader<Stdin>) -> Result<bool, Failure> {
+        Ok(read_line(input, &mut self.line)? && read_line(input, &mut self.answer)?)
+    }
 }

@@ -1,11 +1,10 @@
 // Why the referee stops.
 use std::alloc::AllocError;
+use std::error::Error;
 use std::{fmt, io};
+use text::report::Report;
 
-const USAGE: &str =
-    "usage: referee    (lines on standard input: case DIGEST, then claimer HEX, doubter HEX, day D)";
-
-#[derive(Drop)]
+#[derive(Debug, Drop)]
 pub(crate) enum Failure {
     Arguments,
     NoCase,
@@ -31,6 +30,8 @@ impl fmt::Display for Failure {
     }
 }
 
+impl Error for Failure {}
+
 impl From<io::Error> for Failure {
     fn from(e: io::Error) -> Failure {
         Failure::Input(e)
@@ -43,12 +44,17 @@ impl From<AllocError> for Failure {
     }
 }
 
-impl Failure {
-    // The reason, and the usage, on standard error.
-    pub(crate) fn tell(&self, rt: &HostRuntime) {
-        let _ = eprintln!(rt; "referee: {self}");
-        if let Failure::Arguments | Failure::NoCase = self {
-            let _ = eprintln!(rt; "{USAGE}");
-        }
+impl Report for Failure {
+    const PROGRAM: &'static str = "referee";
+
+    const USAGE: &'static str =
+        "usage: referee    (lines on standard input: case DIGEST, then claimer HEX, doubter HEX, day D)";
+
+    fn is_usage(&self) -> bool {
+        matches!(self, Failure::Arguments | Failure::NoCase)
+    }
+
+    fn number(&self) -> Option<u8> {
+        None
     }
 }

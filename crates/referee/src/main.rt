@@ -10,6 +10,7 @@ use record::Line;
 use std::io::{BufRead, BufReader, Stdin};
 use std::process::ExitCode;
 use std::{env, io};
+use text::report;
 
 // The next byte of the input; none at its end.
 fn next_byte(input: &mut BufReader<Stdin>) -> io::Result<Option<u8>> {
@@ -23,6 +24,7 @@ fn next_byte(input: &mut BufReader<Stdin>) -> io::Result<Option<u8>> {
 // Reads a line; false at the end of the input. The last line may lack its line feed.
 fn read_line(input: &mut BufReader<Stdin>, line: &mut Line) -> Result<bool, Failure> {
     line.clear();
+    // It waits on input: the line ends the loop, never the count.
     for _ in 0..u64::MAX {
         match next_byte(input)? {
             Some(b'\n') => return Ok(true),
@@ -36,18 +38,7 @@ fn read_line(input: &mut BufReader<Stdin>, line: &mut Line) -> Result<bool, Fail
 // Prints what became of a line, and how the case stands then.
 fn print_answer(rt: &HostRuntime, answer: Answer, referee: &Referee) -> Result<(), Failure> {
     let line = record::answer(rt.alloc(), answer, &referee.case.phase)?;
-    match println!(rt; "{line}") {
-        Ok(()) => Ok(()),
-        Err(e) => Err(Failure::Output(e)),
-    }
-}
-
-// The case that the first line opens.
-fn open(rt: &HostRuntime, line: &Line) -> Result<Referee, Failure> {
-    match record::opening(rt.alloc(), line)? {
-        Some(start) => Ok(Referee::open(start)),
-        None => Err(Failure::NoCase),
-    }
+    println!(rt; "{line}").map_err(Failure::Output)
 }
 
 // The referee takes no arguments.
@@ -66,8 +57,10 @@ fn hear(rt: &HostRuntime) -> Result<(), Failure> {
     if !read_line(&mut input, &mut line)? {
         return Err(Failure::NoCase);
     }
-    let mut referee = open(rt, &line)?;
+    let start = record::opening(rt.alloc(), &line)?.ok_or(Failure::NoCase)?;
+    let mut referee = Referee::open(start);
     print_answer(rt, Answer::Taken, &referee)?;
+    // It waits on input: its end ends the loop, never the count.
     for _ in 0..u64::MAX {
         if !read_line(&mut input, &mut line)? {
             return Ok(());
@@ -80,11 +73,5 @@ fn hear(rt: &HostRuntime) -> Result<(), Failure> {
 }
 
 fn main(rt: HostRuntime) -> ExitCode {
-    match hear(&rt) {
-        Ok(()) => ExitCode::SUCCESS,
-        Err(failure) => {
-            failure.tell(&rt);
-            ExitCode::FAILURE
-        }
-    }
+    report::status(&rt, hear(&rt))
 }

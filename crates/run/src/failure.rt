@@ -4,9 +4,7 @@ ghost use Rattle.run.specs.Failures.{is_usage, number_of};
 
 use std::{fmt, io};
 use text::program::LoadError;
-
-const USAGE: &str =
-    "usage: run FILE K    (FILE: a program, K: a number of steps from 0 to 4294967296)";
+use text::report::Report;
 
 #[derive(Drop)]
 pub enum Failure {
@@ -31,35 +29,26 @@ impl fmt::Display for Failure {
     }
 }
 
-impl Failure {
+impl Report for Failure {
+    const PROGRAM: &'static str = "run";
+
+    const USAGE: &'static str =
+        "usage: run FILE K    (FILE: a program, K: a number of steps from 0 to 4294967296)";
+
     // Whether the call was wrong.
     fn is_usage(&self) -> bool
         ensures { result ≡ is_usage self.now }
     {
-        match self {
-            Failure::Program(_, _) | Failure::Output(_) => false,
-            _ => true,
-        }
+        !matches!(self, Failure::Program(_, _) | Failure::Output(_))
     }
 
-    // The number that goes to standard output, if there is one.
+    // That of a bad program.
     fn number(&self) -> Option<u8>
         ensures { result ≡ number_of self.now }
     {
         match self {
             Failure::Program(_, e) => e.number(),
             _ => None,
-        }
-    }
-
-    // The reason, and the usage where it helps, on standard error; the number on standard output.
-    pub fn tell(&self, rt: &HostRuntime) {
-        let _ = eprintln!(rt; "run: {self}");
-        if self.is_usage() {
-            let _ = eprintln!(rt; "{USAGE}");
-        }
-        if let Some(number) = self.number() {
-            let _ = println!(rt; "{number}");
         }
     }
 }

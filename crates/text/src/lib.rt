@@ -7,3 +7,4 @@ pub mod line;
 pub mod number;
 pub mod program;
 pub mod progress;
+pub mod report;
