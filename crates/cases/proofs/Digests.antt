@@ -1,8 +1,7 @@
 -- The digests of the table, computed.
-use Rattle.std.proofs.Common.{◌≡◌, ℕ, false, List, [], ◌∷◌, get_or, set, sym, refl, ap, ◌∙◌, arith}
+use Rattle.std.proofs.Common.{◌≡◌, ℕ, false, List, [], ◌∷◌, get_or, set, sym, refl, ap, ◌∙◌, arith, bytes_eq}
 use Rattle.sha256.specs.Sha256.{K, H₀, words, next, more, expand, schedule, rounds, sums, compress, zeros, ending, pad, absorb, hash, sha256}
 use Rattle.merkle.specs.Bytes.{Bytes, be4, word_preimage, pair_preimage, state_preimage}
-use Rattle.merkle.specs.Collision.{eq_bytes}
 use Rattle.merkle.specs.Tree.{root, climb, root_from, siblings_of}
 use Rattle.merkle.specs.Openings.{opened, honest}
 use Rattle.merkle.proofs.Honest.{updates}
@@ -73,9 +72,9 @@ idle_root = sparse_node sha256 [] idle.memory (program_at []) 16 0 (omega arith)
 misplaced_root : opened sha256 1 (honest sha256 0 memory) ≡ as_digest root_misplaced
 misplaced_root = ap (λ w. root_from sha256 1 w (siblings_of sha256 16 0 0 memory)) (program_at instructions 0) ∙ ap (root_from sha256 1 458759) (siblings_are 0) ∙ root_is 3
 
-pub misplaced_off : eq_bytes (opened sha256 1 (honest sha256 0 memory)) (root sha256 memory) ≡ false
-unfolding eq_bytes bytes
-misplaced_off = ap (λ x. eq_bytes x (root sha256 memory)) misplaced_root ∙ ap (eq_bytes (as_digest root_misplaced)) memory_root
+pub misplaced_off : bytes_eq (opened sha256 1 (honest sha256 0 memory)) (root sha256 memory) ≡ false
+unfolding bytes
+misplaced_off = ap (λ x. bytes_eq x (root sha256 memory)) misplaced_root ∙ ap (bytes_eq (as_digest root_misplaced)) memory_root
 
 -- ---- states
 abbrev pub state : (place register : ℕ) → List ℕ → State

@@ -1,11 +1,10 @@
 -- The disputes, message by message, and the steps that are shown in them.
-use Rattle.std.proofs.Common.{◌≡◌, ℕ, Bool, true, false, cond, ◌&&◌, [], ◌∷◌, Some, refl, ap, ◌∙◌, arith}
+use Rattle.std.proofs.Common.{◌≡◌, ℕ, Bool, true, false, cond, ◌&&◌, [], ◌∷◌, Some, refl, ap, ◌∙◌, arith, bytes_eq}
 use Rattle.std.specs.Option.{option_map}
 use Rattle.std.proofs.lemmas.Bool.{and_parts, and_left, and_right}
 use Rattle.sha256.specs.Sha256.{sha256}
 use Rattle.digests.specs.Bytes.{sha256_digest}
 use Rattle.merkle.specs.Bytes.{Bytes}
-use Rattle.merkle.specs.Collision.{eq_bytes}
 use Rattle.merkle.specs.Openings.{opened, honest}
 use Rattle.merkle.proofs.Strings.{true_eq, digest_long}
 use Rattle.merkle.proofs.Bindings.{Formed, formed}
@@ -64,17 +63,17 @@ module _ (g : Bytes) where
 
 -- ---- an honest step, from g to d, that is shown for one to e
 module _ (s : State) (v : Valid s) (g d : ℕ) (from : digest sha256 s ≡ as_digest g) (to : digest sha256 (step s) ≡ as_digest d) (e : ℕ) where
-  leads : eq_bytes (sha256 (next_part sha256 (witness sha256 s))) (as_digest e) ≡ eq_bytes (as_digest d) (as_digest e)
-  leads = ap (λ x. eq_bytes x (as_digest e)) (digest_next sha256 sha256_digest s v ∙ to)
+  leads : bytes_eq (sha256 (next_part sha256 (witness sha256 s))) (as_digest e) ≡ bytes_eq (as_digest d) (as_digest e)
+  leads = ap (λ x. bytes_eq x (as_digest e)) (digest_next sha256 sha256_digest s v ∙ to)
 
-  pub honest_tests : Holds (shown g (witness sha256 s) e true true true (eq_bytes (as_digest d) (as_digest e)))
+  pub honest_tests : Holds (shown g (witness sha256 s) e true true true (bytes_eq (as_digest d) (as_digest e)))
   unfolding witness
   honest_tests = (true_eq _ _ from, true_eq _ _ (opens sha256 _ s.memory v.place), true_eq _ _ (opens sha256 _ s.memory (omega arith)), leads)
 
-  pub honest_verdict : accepts sha256 (as_digest g) (witness sha256 s) (as_digest e) ≡ eq_bytes (as_digest d) (as_digest e)
+  pub honest_verdict : accepts sha256 (as_digest g) (witness sha256 s) (as_digest e) ≡ bytes_eq (as_digest d) (as_digest e)
   honest_verdict =
       let f : fits sha256 (as_digest g) (witness sha256 s) ≡ true = rw (← from) (and_parts (fits sha256 (digest sha256 s) (witness sha256 s)) _ (complete sha256 sha256_digest s v)).0 in
-      ap (λ x. x && eq_bytes (sha256 (next_part sha256 (witness sha256 s))) (as_digest e)) f ∙ leads
+      ap (λ x. x && bytes_eq (sha256 (next_part sha256 (witness sha256 s))) (as_digest e)) f ∙ leads
 
 -- ---- the misplaced step
 pub misplaced_read : parse 6 (witness_bytes misplaced) ≡ Some misplaced

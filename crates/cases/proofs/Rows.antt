@@ -1,8 +1,7 @@
 -- The rows of the table.
-use Rattle.std.proofs.Common.{◌≡◌, ℕ, true, false, cond, [], ◌∷◌, refl, ap, ◌∙◌}
+use Rattle.std.proofs.Common.{◌≡◌, ℕ, true, false, cond, [], ◌∷◌, refl, ap, ◌∙◌, bytes_eq}
 use Rattle.sha256.specs.Sha256.{sha256}
 use Rattle.digests.specs.Bytes.{sha256_digest}
-use Rattle.merkle.specs.Collision.{eq_bytes}
 use Rattle.machine.specs.Machine.{step, digest}
 use Rattle.system.specs.System.{run}
 use Rattle.witness.specs.declared.Party.TheVariants.{Claimer, Doubter}
@@ -27,16 +26,16 @@ unfolding run
 to2 = ap (digest sha256) run2 ∙ digest2_is
 
 -- the second, shown for a step to x
-own1_tests : (x : ℕ) → Holds (shown digest1 (own 1) x true true true (eq_bytes (as_digest digest2) (as_digest x)))
+own1_tests : (x : ℕ) → Holds (shown digest1 (own 1) x true true true (bytes_eq (as_digest digest2) (as_digest x)))
 own1_tests = honest_tests (run real 1 sevens) valid1 digest1 digest2 from1 to2
 
-by_own1 : (x : ℕ) → Holds (disputed digest0 (halved x digest1 (right ∷ shows (own 1) ∷ [])) (Over (cond (eq_bytes (as_digest digest2) (as_digest x)) Claimer Doubter)))
+by_own1 : (x : ℕ) → Holds (disputed digest0 (halved x digest1 (right ∷ shows (own 1) ∷ [])) (Over (cond (bytes_eq (as_digest digest2) (as_digest x)) Claimer Doubter)))
 by_own1 x =
     by_second (as_digest digest0) x digest1 (own 1) _ (legible sha256 sha256_digest (run real 1 sevens) valid1) (honest_verdict (run real 1 sevens) valid1 digest1 digest2 from1 to2 x)
 
 -- ---- all of them
 pub rows : Worked
-unfolding run eq_bytes bytes
+unfolding run bytes
 rows =
     row sevens _ 0 0 digest0 refl word_before digest0_is
     also row sevens _ 1 0 digest1 run1 word_before digest1_is

@@ -1,8 +1,7 @@
 -- Rows of worked cases on real SHA-256, and what each says.
-use Rattle.std.specs.Prelude.{◌≡◌, ℕ, zero, suc, ◌-◌, ◌/◌, ◌%◌, ◌^◌, Bool, List, [], ◌∷◌, ◌++◌, length, replicate, Ok, Err, slice_index}
+use Rattle.std.specs.Prelude.{◌≡◌, ℕ, zero, suc, ◌-◌, ◌/◌, ◌%◌, ◌^◌, Bool, List, [], ◌∷◌, ◌++◌, length, replicate, Ok, Err, slice_index, bytes_eq}
 use Rattle.sha256.specs.Sha256.{sha256}
 use Rattle.merkle.specs.Bytes.{Bytes}
-use Rattle.merkle.specs.Collision.{eq_bytes}
 use Rattle.machine.specs.Machine.{State}
 use Rattle.system.specs.System.{System, run, digest_at}
 use Rattle.witness.specs.declared.Witness.{Witness}
@@ -56,7 +55,7 @@ abbrev pub Holds : Row → Type 0
 Holds (after s n p a w d) = ((run real n s).cpu ≡ record { place = p; register = a }) × (slice_index (run real n s).memory 100 ≡ w) × (digest_at real s n ≡ as_digest d)
 Holds (still s d) = (n : ℕ) → (run real n s ≡ s) × (digest_at real s n ≡ as_digest d)
 Holds (shown g o d a b c e) =
-    (state_fits sha256 (as_digest g) o ≡ a) × (instruction_fits sha256 o ≡ b) × (operand_fits sha256 o ≡ c) × (eq_bytes (sha256 (next_part sha256 o)) (as_digest d) ≡ e)
+    (state_fits sha256 (as_digest g) o ≡ a) × (instruction_fits sha256 o ≡ b) × (operand_fits sha256 o ≡ c) × (bytes_eq (sha256 (next_part sha256 o)) (as_digest d) ≡ e)
 Holds (disputed g es f) = Goes (bisection real (as_digest g)) (opening (bisection real (as_digest g))) es f
 
 -- Every row of a list holds.

@@ -1,7 +1,6 @@
 -- The halving game ends, takes few messages and stays within the run; and its rules can be kept.
-use Rattle.std.proofs.Common.{◌≡◌, ℕ, zero, suc, ◌+◌, ◌*◌, ◌^◌, ◌≤◌, Bool, true, false, cond, List, [], ◌∷◌, ◌++◌, Some, None, Option, sym, refl, ap, ◌∙◌, subst, arith, pow_mono}
+use Rattle.std.proofs.Common.{◌≡◌, ℕ, zero, suc, ◌+◌, ◌*◌, ◌^◌, ◌≤◌, Bool, true, false, cond, List, [], ◌∷◌, ◌++◌, Some, None, Option, sym, refl, ap, ◌∙◌, subst, arith, pow_mono, bytes_eq}
 use Rattle.merkle.specs.Bytes.{Bytes}
-use Rattle.merkle.specs.Collision.{eq_bytes}
 use Rattle.system.specs.System.{System, Lawful, run, digest_at}
 use Rattle.witness.specs.declared.Party.{Party}
 use Rattle.witness.specs.declared.Party.TheVariants.{Claimer, Doubter}
@@ -178,13 +177,13 @@ module _ (S : System) (g : Bytes) (day since : ℕ) where
 
   doubter_at : (s : S.State) (f : Phase) (m : MessageOf S) → honest_doubter S s f ≡ Some m → IsTaken f Doubter m
   doubter_at s (Claiming y) m e = cc
-  doubter_at s (Doubting y k x) m e = go (eq_bytes x (digest_at S s (2 ^ k))) e
+  doubter_at s (Doubting y k x) m e = go (bytes_eq x (digest_at S s (2 ^ k))) e
     where
       go : (t : Bool) → cond t None (Some Doubt) ≡ Some m → IsTaken (Doubting y k x) Doubter m
       go true e = cc
       go false e = sends (Doubting y k x) Doubter m Doubt e tt refl
   doubter_at s (Bisecting k p) m e = cc
-  doubter_at s (Answering k p x) m e = go (eq_bytes x (digest_at S s (p.from + 2 ^ k))) e
+  doubter_at s (Answering k p x) m e = go (bytes_eq x (digest_at S s (p.from + 2 ^ k))) e
     where
       go : (t : Bool) → Some (cond t Right Wrong) ≡ Some m → IsTaken (Answering k p x) Doubter m
       go true e = sends (Answering k p x) Doubter m Right e tt refl

@@ -1,7 +1,6 @@
 -- An honest party that is right does not lose.
-use Rattle.std.proofs.Common.{◌≡◌, ℕ, zero, suc, ◌+◌, ◌^◌, Bool, true, false, cond, ◌⊎◌, List, Some, None, Option, sym, refl, ap, ◌∙◌, subst, inl, inr, zero-add}
+use Rattle.std.proofs.Common.{◌≡◌, ℕ, zero, suc, ◌+◌, ◌^◌, Bool, true, false, cond, ◌⊎◌, List, Some, None, Option, sym, refl, ap, ◌∙◌, subst, inl, inr, zero-add, bytes_eq}
 use Rattle.std.proofs.lemmas.Bool.{cond_both}
-use Rattle.merkle.specs.Collision.{eq_bytes}
 use Rattle.merkle.proofs.Strings.{eq_true, eq_false, same_or_not}
 use Rattle.system.specs.System.{System, Lawful, run, digest_at}
 use Rattle.witness.specs.declared.Party.{Party}
@@ -123,10 +122,10 @@ module _ (S : System) (law : Lawful S) (s : S.State) (v : S.Valid s) where
   firm_move (doubts {g} {n} {x}) t says i = inl (firm_disputing S s n (whole g x) (record { agreed = i.0 ∙ sym (digest_start S s); disputed = rw zero-add i.1 }))
   firm_move names t says i = inl i
   firm_move (agrees {n} {p} {x}) t says i =
-      let same = eq_true x (digest_at S s (p.from + 2 ^ n)) (said_right (eq_bytes x (digest_at S s (p.from + 2 ^ n))) (says (cc))) in
+      let same = eq_true x (digest_at S s (p.from + 2 ^ n)) (said_right (bytes_eq x (digest_at S s (p.from + 2 ^ n))) (says (cc))) in
       inl (firm_disputing S s n (second_half n p x) (record { agreed = same; disputed = λ e. i.disputed (e ∙ sym (ap (digest_at S s) (twice p.from n))) }))
   firm_move (denies {n} {p} {x}) t says i =
-      let differ = eq_false x (digest_at S s (p.from + 2 ^ n)) (said_wrong (eq_bytes x (digest_at S s (p.from + 2 ^ n))) (says (cc))) in
+      let differ = eq_false x (digest_at S s (p.from + 2 ^ n)) (said_wrong (bytes_eq x (digest_at S s (p.from + 2 ^ n))) (says (cc))) in
       inl (firm_disputing S s n (first_half p x) (record { agreed = i.agreed; disputed = differ }))
   firm_move (proves {p} {o}) t says i =
       elim (step_refused S law s v p o i)
@@ -134,7 +133,7 @@ module _ (S : System) (law : Lawful S) (s : S.State) (v : S.Valid s) where
 
 firm_late : (S : System) (s : S.State) (f : Phase) → honest_doubter S s f ≡ None → Firm S s f → Firm S s (late (game S s) f)
 firm_late S s (Claiming g) r i = tt
-firm_late S s (Doubting g n x) r i = i.1 (eq_true x (digest_at S s (2 ^ n)) (said_nothing (eq_bytes x (digest_at S s (2 ^ n))) r))
+firm_late S s (Doubting g n x) r i = i.1 (eq_true x (digest_at S s (2 ^ n)) (said_nothing (bytes_eq x (digest_at S s (2 ^ n))) r))
 firm_late S s (Bisecting n p) r i = tt
 firm_late S s (Answering n p x) r i = cc
 firm_late S s (Proving p) r i = tt

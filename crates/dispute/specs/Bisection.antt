@@ -1,8 +1,7 @@
 -- The halving game as a protocol over any system: its messages and their bytes, its phases, and what the honest parties send.
-use Rattle.std.specs.Prelude.{◌≡◌, ℕ, zero, suc, ◌+◌, ◌^◌, ◌<◌, ◌≤◌, cond, ◌&&◌, [], ◌∷◌, length, drop, Some, None, Option, ◌==◌, nat_le, slice_index}
+use Rattle.std.specs.Prelude.{◌≡◌, ℕ, zero, suc, ◌+◌, ◌^◌, ◌<◌, ◌≤◌, cond, ◌&&◌, [], ◌∷◌, length, drop, Some, None, Option, ◌==◌, nat_le, slice_index, bytes_eq}
 use Rattle.std.specs.Option.{option_map}
 use Rattle.merkle.specs.Bytes.{Bytes}
-use Rattle.merkle.specs.Collision.{eq_bytes}
 use Rattle.system.specs.System.{System, run, digest_at}
 use Rattle.witness.specs.declared.Party.{Party}
 use Rattle.witness.specs.declared.Party.TheVariants.{Claimer, Doubter}
@@ -164,9 +163,9 @@ module _ (S : System) where
   -- The honest doubter doubts a claim exactly if it is not its own run's, and says right exactly if the middle is.
   abbrev pub honest_doubter : S.State → Phase → Option MessageOf
   honest_doubter s (Claiming g) = None
-  honest_doubter s (Doubting g k x) = cond (eq_bytes x (digest_at S s (2 ^ k))) None (Some Doubt)
+  honest_doubter s (Doubting g k x) = cond (bytes_eq x (digest_at S s (2 ^ k))) None (Some Doubt)
   honest_doubter s (Bisecting k p) = None
-  honest_doubter s (Answering k p x) = Some (cond (eq_bytes x (digest_at S s (p.from + 2 ^ k))) Right Wrong)
+  honest_doubter s (Answering k p x) = Some (cond (bytes_eq x (digest_at S s (p.from + 2 ^ k))) Right Wrong)
   honest_doubter s (Proving p) = None
   honest_doubter s (Over w) = None
 

@@ -12,7 +12,7 @@ use crate::Role;
 use dispute::{Answer, Message, Phase, Referee};
 use history::History;
 use machine::Watch;
-use merkle::{Digest, Digester, same};
+use merkle::{Digest, Digester};
 use record::{Entry, admit};
 use std::alloc::{AllocError, Global};
 use witness::Witness;
@@ -122,11 +122,11 @@ impl Player {
             }
             (Role::Doubter, Phase::Doubting(_, n, claimed)) => {
                 let own = history.digest_at(digester, power(n))?;
-                Ok((!same(&claimed, &own)).then_some(Message::Doubt))
+                Ok((claimed != own).then_some(Message::Doubt))
             }
             (Role::Doubter, Phase::Answering(k, dispute, middle)) => {
                 let own = history.digest_at(digester, u64::from(dispute.from) + power(k))?;
-                if same(&middle, &own) {
+                if middle == own {
                     Ok(Some(Message::Right))
                 } else {
                     Ok(Some(Message::Wrong))

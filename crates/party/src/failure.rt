@@ -1,10 +1,11 @@
 // Why a party stops before its case is over.
 use std::alloc::AllocError;
+use std::error::Error;
 use std::{fmt, io};
 use text::program::LoadError;
 use text::report::Report;
 
-#[derive(Drop)]
+#[derive(Debug, Drop)]
 pub(crate) enum Failure {
     Arguments,
     Exponent,
@@ -35,6 +36,8 @@ impl fmt::Display for Failure {
         }
     }
 }
+
+impl Error for Failure {}
 
 impl From<io::Error> for Failure {
     fn from(e: io::Error) -> Failure {

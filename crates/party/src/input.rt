@@ -1,32 +1,8 @@
 // What is read of the record.
 use crate::failure::Failure;
-use record::Line;
+use record::{Line, read_line};
 use std::alloc::Global;
-use std::io;
-use std::io::{BufRead, BufReader, Stdin};
-
-// The next byte of the input; none at its end.
-fn next_byte(input: &mut BufReader<Stdin>) -> io::Result<Option<u8>> {
-    let byte = input.fill_buf()?.first().copied();
-    if byte.is_some() {
-        input.consume(1);
-    }
-    Ok(byte)
-}
-
-// Reads a line; false at the end of the input. The last line may lack its line feed.
-fn read_line(input: &mut BufReader<Stdin>, line: &mut Line) -> Result<bool, Failure> {
-    line.clear();
-    // It waits on input: the line ends the loop, never the count.
-    for _ in 0..u64::MAX {
-        match next_byte(input)? {
-            Some(b'\n') => return Ok(true),
-            Some(byte) => line.push(byte)?,
-            None => return Ok(!line.is_empty()),
-        }
-    }
-    Ok(false)
-}
+use std::io::{BufReader, Stdin};
 
 // A line of the record, and the referee's answer to it.
 #[derive(Drop)]

@@ -3,7 +3,7 @@ use crate::failure::Failure;
 use crate::input::Exchange;
 use digests::Sha256;
 use dispute::{Answer, Message, Phase, Refusal};
-use merkle::{Digester, same};
+use merkle::Digester;
 use parties::{Player, Role, collision};
 use record::{Entry, Line};
 use text::hex;
@@ -26,10 +26,7 @@ impl Seat<'_> {
         };
         let bytes = message.encode(self.rt.alloc())?;
         let digits = hex::encode(self.rt.alloc(), &bytes)?;
-        let side = match self.player.role.side() {
-            Party::Claimer => "claimer",
-            Party::Doubter => "doubter",
-        };
+        let side = self.player.role.side();
         println!(self.rt; "{side} {digits}").map_err(Failure::Output)
     }
 
@@ -47,7 +44,7 @@ impl Seat<'_> {
             Refusal::OutOfPlace,
             Refusal::WrongDay,
         ] {
-            if self.reads(answer, Answer::Refused(refusal))? {
+            if self.reads(answer, Err(refusal))? {
                 return Ok(true);
             }
         }
@@ -60,14 +57,14 @@ impl Seat<'_> {
             return Ok(false);
         };
         if let Phase::Claiming(own) = &self.player.referee.case.phase {
-            if !same(own, &start) {
+            if *own != start {
                 let _ = eprintln!(self.rt;
                     "party: the case is not about this program's start; going on by the own run"
                 );
             }
         }
         self.player.open(start);
-        self.reads(&exchange.answer, Answer::Taken)
+        self.reads(&exchange.answer, Ok(()))
     }
 
     // Prints the two strings with one digest by which the party has lost, if there are such.
@@ -82,10 +79,7 @@ impl Seat<'_> {
         let Some((one, other)) = found else {
             return Ok(());
         };
-        if !same(
-            &Sha256.digest(one.as_bytes()),
-            &Sha256.digest(other.as_bytes()),
-        ) {
+        if Sha256.digest(one.as_bytes()) != Sha256.digest(other.as_bytes()) {
             return Ok(());
         }
         let one = hex::encode(self.rt.alloc(), one.as_bytes())?;
@@ -100,10 +94,8 @@ impl Seat<'_> {
         }
         let entry = record::read(self.rt.alloc(), &exchange.line)?;
         let before = self.player.referee.case.phase;
-        let Answer::Taken = self.player.hear(&mut Sha256, &entry) else {
-            return Err(Failure::Record(number));
-        };
-        if !self.reads(&exchange.answer, Answer::Taken)? {
+        let taken = self.player.hear(&mut Sha256, &entry).is_ok();
+        if !taken || !self.reads(&exchange.answer, Ok(()))? {
             return Err(Failure::Record(number));
         }
         match (self.player.referee.case.phase, self.player.role) {

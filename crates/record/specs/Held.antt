@@ -1,9 +1,8 @@
 -- What is held of a line as it comes in: its bytes, or None once they are more than the longest line has.
-use Rattle.std.specs.Prelude.{◌≡◌, ℕ, Bool, false, cond, [], ◌∷◌, ◌++◌, length, Some, None, Option, nat_le, nat_lt}
+use Rattle.std.specs.Prelude.{◌≡◌, ℕ, Bool, false, cond, [], ◌∷◌, ◌++◌, length, Some, None, Option, nat_le, nat_lt, bytes_eq}
 use Rattle.std.specs.Io.BufRead.{drop_through, first_piece}
 use Rattle.std.specs.Str.Lines.{strip_carriage_return}
 use Rattle.merkle.specs.Bytes.{Bytes}
-use Rattle.merkle.specs.Collision.{eq_bytes}
 use Rattle.dispute.specs.declared.Phase.{Phase}
 use Rattle.dispute.specs.declared.Refusal.TheVariants.{Unreadable}
 use Rattle.dispute.specs.Referee.{Answer}
@@ -44,4 +43,4 @@ opening_at l = or_else l opening_in None
 
 -- Whether it is this answer, with the case standing so.
 abbrev pub answers_so : Option Bytes → Answer → Phase → Bool
-answers_so l a f = or_else l (λ bs. eq_bytes (strip_carriage_return bs) (answer_line a f)) false
+answers_so l a f = or_else l (λ bs. bytes_eq (strip_carriage_return bs) (answer_line a f)) false

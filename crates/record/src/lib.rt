@@ -16,7 +16,7 @@ mod line;
 use dispute::{Answer, Phase, Referee, Refusal};
 pub use input::read_line;
 pub use line::Line;
-use merkle::{Digest, Digester, same};
+use merkle::{Digest, Digester};
 use std::alloc::{AllocError, Global};
 use text::{hex, number};
 use witness::Party;
@@ -166,7 +166,7 @@ pub fn is_answer(
     let wanted = crate::answer(heap, answer, phase)?;
     Ok(
         line.text()
-            .is_some_and(|text| same(without_cr(text), wanted.as_bytes())),
+            .is_some_and(|text| without_cr(text) == wanted.as_bytes()),
     )
 }
 

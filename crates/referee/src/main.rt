@@ -6,34 +6,11 @@ mod failure;
 use digests::Sha256;
 use dispute::{Answer, Referee};
 use failure::Failure;
-use record::Line;
-use std::io::{BufRead, BufReader, Stdin};
+use record::{Line, read_line};
+use std::env;
+use std::io::BufReader;
 use std::process::ExitCode;
-use std::{env, io};
 use text::report;
-
-// The next byte of the input; none at its end.
-fn next_byte(input: &mut BufReader<Stdin>) -> io::Result<Option<u8>> {
-    let byte = input.fill_buf()?.first().copied();
-    if byte.is_some() {
-        input.consume(1);
-    }
-    Ok(byte)
-}
-
-// Reads a line; false at the end of the input. The last line may lack its line feed.
-fn read_line(input: &mut BufReader<Stdin>, line: &mut Line) -> Result<bool, Failure> {
-    line.clear();
-    // It waits on input: the line ends the loop, never the count.
-    for _ in 0..u64::MAX {
-        match next_byte(input)? {
-            Some(b'\n') => return Ok(true),
-            Some(byte) => line.push(byte)?,
-            None => return Ok(!line.is_empty()),
-        }
-    }
-    Ok(false)
-}
 
 // Prints what became of a line, and how the case stands then.
 fn print_answer(rt: &HostRuntime, answer: Answer, referee: &Referee) -> Result<(), Failure> {
@@ -59,7 +36,7 @@ fn hear(rt: &HostRuntime) -> Result<(), Failure> {
     }
     let start = record::opening(rt.alloc(), &line)?.ok_or(Failure::NoCase)?;
     let mut referee = Referee::open(start);
-    print_answer(rt, Answer::Taken, &referee)?;
+    print_answer(rt, Ok(()), &referee)?;
     // It waits on input: its end ends the loop, never the count.
     for _ in 0..u64::MAX {
         if !read_line(&mut input, &mut line)? {

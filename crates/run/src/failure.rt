@@ -2,11 +2,12 @@
 ghost use Rattle.std.specs.Prelude.{◌≡◌};
 ghost use Rattle.run.specs.Failures.{is_usage, number_of};
 
+use std::error::Error;
 use std::{fmt, io};
 use text::program::LoadError;
 use text::report::Report;
 
-#[derive(Drop)]
+#[derive(Debug, Drop)]
 pub enum Failure {
     Call(io::Error),
     Arguments,
@@ -28,6 +29,8 @@ impl fmt::Display for Failure {
         }
     }
 }
+
+impl Error for Failure {}
 
 impl Report for Failure {
     const PROGRAM: &'static str = "run";

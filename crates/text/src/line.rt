@@ -30,11 +30,7 @@ fn from_start<D: Digester, W: Watch>(
     requires { length memory.old ≡ 65536 }
     ensures { IfOk result (λ s. string_bytes s ≡ state_line D.hash (runs steps (start memory.old))) }
 {
-    let start = Cpu {
-        place: 0,
-        register: 0,
-    };
-    let cpu = machine::run(memory, start, steps, watch).unwrap();
+    let cpu = machine::run(memory, Cpu::default(), steps, watch).unwrap();
     let digest = machine::digest(digester, cpu, memory);
     of(heap, cpu, &digest)
 }

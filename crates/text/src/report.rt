@@ -2,11 +2,11 @@
 ghost use Rattle.std.specs.Prelude.{◌≡◌, is_ok, if◌then◌else◌};
 ghost use Rattle.std.specs.Process.{exit_status};
 
-use std::fmt;
+use std::error::Error;
 use std::process::ExitCode;
 
 // Why a program stops.
-pub trait Report: fmt::Display {
+pub trait Report: Error {
     const PROGRAM: &'static str;
 
     const USAGE: &'static str;
@@ -32,7 +32,7 @@ fn tell<F: Report>(rt: &HostRuntime, failure: &F) {
 }
 
 // The status of a program with this outcome: 0, or 1 where it failed, which is told.
-pub fn status<F: Report + Drop>(rt: &HostRuntime, outcome: Result<(), F>) -> ExitCode
+pub fn status<F: Report>(rt: &HostRuntime, outcome: Result<(), F>) -> ExitCode
     ensures { exit_status result ≡ (if is_ok outcome then 0 else 1) }
 {
     match outcome {
