@@ -14,20 +14,16 @@ const MOVES: [u8; 28] = [
 ];
 
 fn memory(heap: Global) -> Result<Vec<u32>, Fail> {
-    program::load(heap, &MOVES).map_err(|_| Fail::new("no program"))
+    Ok(program::load(heap, &MOVES)?)
 }
 
 // The state after so many steps is the one that a run from the start gives, and so is its digest.
 fn found(rt: &impl Abort, heap: Global, history: &History, steps: u64) -> Result<(), Fail> {
     let (cpu, words) = history.state_at(steps)?;
     let mut memory = memory(heap)?;
-    let start = Cpu {
-        place: 0,
-        register: 0,
-    };
-    let end = machine::run(&mut memory, start, steps, &mut Unwatched).ok_or_else(|| Fail::new(
-        "refused",
-    ))?;
+    let end = machine::run(&mut memory, Cpu::default(), steps, &mut Unwatched).ok_or_else(
+        || Fail::new("refused"),
+    )?;
     assert_eq!(rt; cpu.place, end.place);
     assert_eq!(rt; cpu.register, end.register);
     assert!(rt; words == memory);

@@ -50,7 +50,7 @@ fn published_digests(rt: HostRuntime) -> Result<(), Fail> {
 const STORE: [u8; 12] = [0, 7, 0, 7, 0, 2, 0, 100, 0, 5, 0, 0];
 
 fn after(heap: Global, file: &[u8], steps: u64) -> Result<String, Fail> {
-    line::after(heap, file, steps, &mut Sha256, &mut Unwatched).map_err(|_| Fail::new("no line"))
+    Ok(line::after(heap, file, steps, &mut Sha256, &mut Unwatched)?)
 }
 
 #[test]
@@ -85,12 +85,8 @@ fn lines(rt: HostRuntime) -> Result<(), Fail> {
 
 #[test]
 fn register_is_stored(rt: HostRuntime) -> Result<(), Fail> {
-    let mut memory = program::load(rt.alloc(), &STORE).map_err(|_| Fail::new("no program"))?;
-    let start = Cpu {
-        place: 0,
-        register: 0,
-    };
-    let cpu = machine::run(&mut memory, start, 3, &mut Unwatched).ok_or_else(|| Fail::new(
+    let mut memory = program::load(rt.alloc(), &STORE)?;
+    let cpu = machine::run(&mut memory, Cpu::default(), 3, &mut Unwatched).ok_or_else(|| Fail::new(
         "refused",
     ))?;
     assert_eq!(rt; cpu.place, 0);
@@ -103,11 +99,8 @@ fn register_is_stored(rt: HostRuntime) -> Result<(), Fail> {
 #[test]
 fn short_memory_is_refused(rt: HostRuntime) {
     let mut memory = [0x0007_0007, 1];
-    let start = Cpu {
-        place: 0,
-        register: 0,
-    };
-    assert!(rt; machine::run(&mut memory, start, 1, &mut Unwatched).is_none());
+    let run = machine::run(&mut memory, Cpu::default(), 1, &mut Unwatched);
+    assert!(rt; run.is_none());
     assert_eq!(rt; memory, [0x0007_0007, 1]);
 }
 

@@ -29,17 +29,12 @@ fn one_step<D: Digester>(digester: &mut D, memory: &mut [u32], cpu: Cpu) -> Resu
 }
 
 fn claimer_wins<D: Digester>(digester: &mut D, step: &Step) -> bool {
-    matches!(
-        step.witness.judge(digester, &step.start, &step.end),
-        Party::Claimer
-    )
+    step.witness.judge(digester, &step.start, &step.end) == Party::Claimer
 }
 
 // A memory whose first word is an instruction, with 5 at place 100.
 fn memory(heap: Global, instruction: u32) -> Result<Vec<u32>, Fail> {
-    let mut memory = program::load(heap, &instruction.to_be_bytes()).map_err(|_| Fail::new(
-        "no program",
-    ))?;
+    let mut memory = program::load(heap, &instruction.to_be_bytes())?;
     if let Some(word) = memory.get_mut(100) {
         *word = 5;
     }
@@ -76,11 +71,7 @@ fn honest_steps_are_accepted(rt: HostRuntime) -> Result<(), Fail> {
 #[test]
 fn edges_are_accepted(rt: HostRuntime) -> Result<(), Fail> {
     let mut memory = memory(rt.alloc(), 0x0006_0064)?;
-    let start = Cpu {
-        place: 0,
-        register: 0,
-    };
-    let jump = one_step(&mut Sha256, &mut memory, start)?;
+    let jump = one_step(&mut Sha256, &mut memory, Cpu::default())?;
     assert!(rt; claimer_wins(&mut Sha256, &jump));
     if let Some(word) = memory.get_mut(65535) {
         *word = 0x0007_0003;

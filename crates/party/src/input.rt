@@ -22,6 +22,7 @@ impl Exchange {
 
     // Reads the next one; false at the end of the record.
     pub(crate) fn read(&mut self, input: &mut BufReader<Stdin>) -> Result<bool, Failure> {
-        Ok(read_line(input, &mut self.line)? && read_line(input, &mut self.answer)?)
+        let more = read_line::<_, Failure>(input, &mut self.line)?;
+        Ok(more && read_line::<_, Failure>(input, &mut self.answer)?)
     }
 }

@@ -31,7 +31,7 @@ fn hear(rt: &HostRuntime) -> Result<(), Failure> {
     no_arguments(rt)?;
     let mut input = BufReader::new(rt.alloc(), rt.stdin())?;
     let mut line = Line::new(rt.alloc());
-    if !read_line(&mut input, &mut line)? {
+    if !read_line::<_, Failure>(&mut input, &mut line)? {
         return Err(Failure::NoCase);
     }
     let start = record::opening(rt.alloc(), &line)?.ok_or(Failure::NoCase)?;
@@ -39,7 +39,7 @@ fn hear(rt: &HostRuntime) -> Result<(), Failure> {
     print_answer(rt, Ok(()), &referee)?;
     // It waits on input: its end ends the loop, never the count.
     for _ in 0..u64::MAX {
-        if !read_line(&mut input, &mut line)? {
+        if !read_line::<_, Failure>(&mut input, &mut line)? {
             return Ok(());
         }
         let (next, answer) = record::enter(rt.alloc(), referee, &mut Sha256, &line)?;
