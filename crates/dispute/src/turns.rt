@@ -124,32 +124,27 @@ impl Phase {
         ensures seen { D.seen digester.new ≡ seen_all D.adds (D.seen digester.old) (move_strings D.hash self message.now) }
         ensures few { length (move_strings D.hash self message.now) ≤ step_limit (step_in message.now) }
     {
-        match self {
-            Phase::Claiming(start) => match message {
-                Message::Claim(n, claimed) => Some(Phase::Doubting(start, *n, *claimed)),
-                _ => None,
-            },
-            Phase::Doubting(start, n, claimed) => match message {
-                Message::Doubt => Some(Phase::disputing(n, Dispute::whole(start, claimed))),
-                _ => None,
-            },
-            Phase::Bisecting(n, dispute) => match message {
-                Message::Middle(middle) => Some(Phase::Answering(n, dispute, *middle)),
-                _ => None,
-            },
-            Phase::Answering(n, dispute, middle) => match message {
-                Message::Right => Some(Phase::disputing(n, dispute.second_half(n, middle))),
-                Message::Wrong => Some(Phase::disputing(n, dispute.first_half(middle))),
-                _ => None,
-            },
-            Phase::Proving(dispute) => match message {
-                Message::Step(witness) => {
-                    let winner = witness.judge(digester, &dispute.agreed, &dispute.disputed);
-                    Some(Phase::Over(winner))
-                }
-                _ => None,
-            },
-            Phase::Over(_) => None,
+        match (self, message) {
+            (Phase::Claiming(start), Message::Claim(n, claimed)) => {
+                Some(Phase::Doubting(start, *n, *claimed))
+            }
+            (Phase::Doubting(start, n, claimed), Message::Doubt) => {
+                Some(Phase::disputing(n, Dispute::whole(start, claimed)))
+            }
+            (Phase::Bisecting(n, dispute), Message::Middle(middle)) => {
+                Some(Phase::Answering(n, dispute, *middle))
+            }
+            (Phase::Answering(n, dispute, middle), Message::Right) => {
+                Some(Phase::disputing(n, dispute.second_half(n, middle)))
+            }
+            (Phase::Answering(n, dispute, middle), Message::Wrong) => {
+                Some(Phase::disputing(n, dispute.first_half(middle)))
+            }
+            (Phase::Proving(dispute), Message::Step(witness)) => {
+                let winner = witness.judge(digester, &dispute.agreed, &dispute.disputed);
+                Some(Phase::Over(winner))
+            }
+            _ => None,
         }
     }
 }

@@ -18,12 +18,11 @@ longest = 2155
 abbrev pub bounded : Bytes → Option Bytes
 bounded bs = cond (nat_le (length bs) longest) (Some bs) None
 
--- What is held of the line with the bytes bs.
--- What holds of a line l below holds of bounded bs where l holds bs: nothing has come where it is Some [].
+-- What is held of the line with the bytes bs. So what a call says of a line is said of bounded bs where the line holds bs.
 abbrev pub Holds : Option Bytes → Bytes → Type 0
 Holds l bs = l ≡ bounded bs
 
--- With a byte more.
+-- The line goes on with a byte: where l holds bs, this holds bs and the byte.
 abbrev pub pushed : Option Bytes → ℕ → Option Bytes
 pushed l b = or_else l (λ bs. bounded (bs ++ b ∷ [])) None
 

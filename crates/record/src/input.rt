@@ -34,5 +34,6 @@ pub fn read_line<R: BufRead, E: From<io::Error> + From<AllocError>>(
             None => return Ok(!line.is_empty()),
         }
     }
+    // 2^64 - 1 bytes came with no line feed.
     Err(E::from(io::Error::from(ErrorKind::TimedOut)))
 }

@@ -1,7 +1,7 @@
 // Bytes as hexadecimal digits.
 ghost use Rattle.std.specs.Prelude.{◌≡◌, ◌<◌, IfSome, IfOk, Some, vec_items, string_bytes};
 ghost use Rattle.std.specs.Option.{option_map};
-ghost use Rattle.text.specs.Text.{hex_digit, hexadecimal, hex_value, hex_pair, unhex};
+ghost use Rattle.text.specs.Text.{hexadecimal, hex_value, hex_pair, unhex};
 
 use std::alloc::{AllocError, Global};
 

@@ -45,7 +45,7 @@ impl From<AllocError> for LoadError {
     ghost from_gives = { λ _ e. e ≡ NoMemory };
 
     fn from(_e: AllocError) -> LoadError {
-        LoadError::NoMemory
+        Self::NoMemory
     }
 }
 
