@@ -84,10 +84,8 @@ impl Phase {
     fn late(self) -> Phase
         ensures { (h : Hash) (g : Bytes) → result ≡ forfeited (bisection (machine h) g) self }
     {
-        match self.turn() {
-            Some(party) => Phase::Over(opponent(party)),
-            None => self,
-        }
+        self.turn()
+            .map_or(self, |party| Phase::Over(opponent(party)))
     }
 
     // The phase when a day begins, in a turn that began on the day `since`.

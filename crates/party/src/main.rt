@@ -39,6 +39,7 @@ fn arguments(rt: &HostRuntime) -> Result<(String, Role), Failure> {
 
 // The program in a file.
 fn load(rt: &HostRuntime, path: String) -> Result<Vec<u32>, Failure> {
+    // A match, since the path goes into whichever error comes.
     match files::read(rt, path.as_str()) {
         Ok(file) => program::load(rt.alloc(), &file).map_err(|e| Failure::Program(path, e)),
         Err(e) => Err(Failure::File(path, e)),

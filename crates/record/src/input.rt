@@ -27,6 +27,7 @@ pub fn read_line<R: BufRead, E: From<io::Error> + From<AllocError>>(
     ensures end { IfOk result (λ more. more ≡ false → line.new ≡ Some []) }
 {
     line.clear();
+    // It waits on input: the line ends the loop, never the count.
     for _ in 0..u64::MAX {
         match next_byte(input)? {
             Some(b'\n') => return Ok(true),

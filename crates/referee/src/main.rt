@@ -20,10 +20,10 @@ fn print_answer(rt: &HostRuntime, answer: Answer, referee: &Referee) -> Result<(
 
 // The referee takes no arguments.
 fn no_arguments(rt: &HostRuntime) -> Result<(), Failure> {
-    match env::args(rt)?.skip(1).next() {
-        Some(_) => Err(Failure::Arguments),
-        None => Ok(()),
+    if env::args(rt)?.nth(1).is_some() {
+        return Err(Failure::Arguments);
     }
+    Ok(())
 }
 
 // Hears a case to the end of the input.

@@ -29,6 +29,7 @@ fn arguments(rt: &HostRuntime) -> Result<(String, u64), Failure>
 // The line to print.
 fn answer(rt: &HostRuntime) -> Result<String, Failure> {
     let (path, steps) = arguments(rt)?;
+    // A match, since the path goes into whichever error comes.
     match files::read(rt, path.as_str()) {
         Ok(file) => {
             let mut progress = Progress::new(rt, "run", steps);

@@ -120,6 +120,7 @@ fn schedule(block: &[u8; 64]) -> [u32; 64]
 {
     let mut w = [0; 64];
     let (words, _) = block.as_chunks::<4>();
+    // No zip with `w`: of what a zip over `iter_mut` has written a proof knows nothing.
     for (t, word) in words.iter().enumerate() {
         w[t] = u32::from_be_bytes(*word);
     }
@@ -157,6 +158,7 @@ fn compress(state: [u32; 8], block: &[u8; 64]) -> [u32; 8]
     for (t, k) in ROUND_CONSTANTS.iter().enumerate() {
         s = round(s, *k, w[t]);
     }
+    // No zip with `state`, for the reason above.
     for (i, word) in s.iter_mut().enumerate() {
         *word = word.wrapping_add(state[i]);
     }
