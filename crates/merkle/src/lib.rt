@@ -15,6 +15,9 @@ pub use tree::memory_digest;
 
 pub type Digest = [u8; 32];
 
+// How often the words of a memory are joined in pairs, and so how many siblings stand beside a way up.
+pub const LEVELS: usize = 16;
+
 // A digest of byte strings, and what it has seen of them: how many, or which, as an implementation chooses.
 pub trait Digester {
     ghost hash: { List ℕ → List ℕ };

@@ -9,13 +9,13 @@ ghost use Rattle.merkle.specs.Openings.{opened, preimages, well_formed, honest};
 
 use crate::preimage::{parent_preimage, word_preimage};
 use crate::tree::{node_digest, word_at};
-use crate::{Digest, Digester, Preimage, shape};
+use crate::{Digest, Digester, LEVELS, Preimage, shape};
 
 // An opening of a place: the word there, and the digests of the siblings beside its way up, the lowest first.
 #[derive(Clone, Copy)]
 pub struct Opening {
     pub word: u32,
-    pub siblings: [Digest; 16],
+    pub siblings: [Digest; LEVELS],
 }
 
 // Two strings where they differ, else what was found before.
@@ -96,7 +96,7 @@ impl Opening {
         ensures opens { opened D.hash place result ≡ root D.hash memory.now }
         ensures updates { (v : ℕ) → place < length memory.now → opened D.hash place (record { word = v; siblings = result.siblings }) ≡ root D.hash (slice_set memory.now place v) }
     {
-        let mut siblings = [[0; 32]; 16];
+        let mut siblings = [[0; 32]; LEVELS];
         let mut index = place;
         for (level, beside) in siblings.iter_mut().enumerate() {
             *beside = node_digest(digester, memory, level as u32, sibling(index));

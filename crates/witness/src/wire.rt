@@ -3,7 +3,7 @@ ghost use Rattle.std.specs.Prelude.{◌≡◌, Some};
 ghost use Rattle.witness.specs.Wire.{parse, opening_from, opening_bytes, witness_bytes};
 
 use crate::Witness;
-use merkle::Opening;
+use merkle::{LEVELS, Opening};
 
 // A word (4 bytes) and sixteen digests (32 each).
 const OPENING: usize = 516;
@@ -18,7 +18,7 @@ fn opening(bytes: &[u8; OPENING]) -> Opening
     let (word, siblings) = bytes.split_first_chunk::<4>().unwrap();
     Opening {
         word: u32::from_be_bytes(*word),
-        siblings: *siblings.as_chunks::<32>().0.as_array::<16>().unwrap(),
+        siblings: *siblings.as_chunks::<32>().0.as_array::<LEVELS>().unwrap(),
     }
 }
 

@@ -10,4 +10,3 @@ loop-one-init c = refl
 
 pub loop-one-preserved : goal.loop-one-preserved
 loop-one-preserved c = digests_more c.args.digests.now c.loop-one.one-index c.loop-one-test.true c.loop-one.invariant c.digest.ensures
-
