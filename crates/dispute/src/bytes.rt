@@ -58,6 +58,7 @@ fn joined(heap: Global, front: &[u8], back: &[u8]) -> Result<Vec<u8>, AllocError
 
 impl Message<Witness> {
     // The message in a string, by its first byte; none if it is no message.
+    // No TryFrom: of what is no message there is nothing more to say, and the reverse needs an allocator.
     #[tactic(auto, unfolding(crate::specs::Bisection::decode, crate::specs::Bisection::body_of, crate::specs::Bisection::sized, witness::specs::Wire::parse))]
     pub fn decode(bytes: &[u8]) -> Option<Message<Witness>>
         ensures { (h : Hash) → result ≡ decoded (machine h) bytes.now }

@@ -84,7 +84,7 @@ impl fmt::Display for Refusal {
 }
 
 impl Refusal {
-    // The number by which it is answered.
+    // The number by which it is answered; the rules give it, and it is what is printed.
     pub fn number(self) -> u8
         ensures { result ≡ refusal_number self }
     {

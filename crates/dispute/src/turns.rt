@@ -14,6 +14,7 @@ use witness::{Party, Witness};
 // A turn that begins on day D ends when day D + TURN begins.
 const TURN: u64 = 2;
 
+// Not a method: the crate of the parties knows of no opponents.
 fn opponent(party: Party) -> Party
     ensures { result ≡ opponent_of party }
 {

@@ -42,7 +42,7 @@ pub fn place_of(word: u32) -> u16
 }
 
 impl Instruction {
-    // The instruction of a number and a place.
+    // The instruction of a number and a place: the one point where the table's numbers become kinds.
     fn numbered(number: u32, place: u16) -> Instruction
         ensures { result ≡ instruction number place }
     {

@@ -24,6 +24,7 @@ pub trait Digester {
 
     ghost Seen: { Type 0 };
 
+    // Each call that digests says by a clause of its own which strings this goes on by.
     ghost seen: { Self → Seen };
 
     ghost adds: { Seen → List ℕ → Seen };

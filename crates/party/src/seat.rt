@@ -94,8 +94,10 @@ impl Seat<'_> {
         }
         let entry = record::read(self.rt.alloc(), &exchange.line)?;
         let before = self.player.referee.case.phase;
-        let taken = self.player.hear(&mut Sha256, &entry).is_ok();
-        if !taken || !self.reads(&exchange.answer, Ok(()))? {
+        self.player
+            .hear(&mut Sha256, &entry)
+            .map_err(|_| Failure::Record(number))?;
+        if !self.reads(&exchange.answer, Ok(()))? {
             return Err(Failure::Record(number));
         }
         match (self.player.referee.case.phase, self.player.role) {

@@ -19,6 +19,7 @@ fn next_byte<R: BufRead>(input: &mut R) -> io::Result<Option<u8>>
 }
 
 // Reads a line; false at the end of the input. The last line may lack its line feed.
+// A bool and no Option of the line, which the caller holds and lends again.
 pub fn read_line<R: BufRead, E: From<io::Error> + From<AllocError>>(
     input: &mut R,
     line: &mut Line,

@@ -32,6 +32,7 @@ impl fmt::Display for Failure {
 
 impl Error for Failure {}
 
+// By hand in each program: an impl that a macro writes is refused.
 impl From<io::Error> for Failure {
     fn from(e: io::Error) -> Failure {
         Failure::Input(e)

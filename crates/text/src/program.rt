@@ -17,7 +17,7 @@ pub enum LoadError {
 }
 
 impl LoadError {
-    // The number that is printed for it, if it has one.
+    // The number that is printed for it, if the rules give it one.
     pub fn number(self) -> Option<u8>
         ensures { result ≡ refusal self }
     {

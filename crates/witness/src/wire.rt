@@ -34,6 +34,7 @@ fn bytes_of(opening: &Opening) -> [u8; OPENING]
 
 impl Witness {
     // The witness in the body of a message, where it is 1,072 bytes long.
+    // No TryFrom: of a body of another length there is nothing more to say.
     pub fn from_bytes(bytes: &[u8]) -> Option<Witness>
         ensures { result ≡ parse 6 bytes.now }
     {
