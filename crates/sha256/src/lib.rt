@@ -3,7 +3,7 @@
 
 ghost use Rattle.std.specs.Prelude.{◌≡◌, ◌-◌, ◌*◌, ◌%◌, ◌<◌, ◌∷◌, ◌++◌, length, take, replicate};
 ghost use Rattle.std.specs.List.{flat_map};
-ghost use Rattle.sha256.specs.Sha256.{ch, maj, Amount, Σ, σ, be32, be64, sha256, ending};
+ghost use Rattle.sha256.specs.Sha256.{ch, maj, Amount, Σ, σ, words, be32, be64, sha256, ending};
 ghost use Rattle.sha256.specs.Sha256.{schedule as scheduled, round as rounded, compress as compressed, absorb as absorbed, hash};
 
 // The first 32 bits of the fractional parts of the cube roots of the first 64 primes.
@@ -114,16 +114,20 @@ fn small_sigma<const A: u32, const B: u32, const C: u32>(x: u32) -> u32
     x.rotate_right(A) ^ x.rotate_right(B) ^ (x >> C)
 }
 
+// The sixteen words of a block, each with its high byte first.
+fn block_words(block: &[u8; 64]) -> [u32; 16]
+    ensures { result ≡ words 16 block.now }
+{
+    let (words, _) = block.as_chunks::<4>();
+    words.as_array::<16>().unwrap().map(u32::from_be_bytes)
+}
+
 // The 64 words of the message schedule of a block.
 fn schedule(block: &[u8; 64]) -> [u32; 64]
     ensures { result ≡ scheduled block.now }
 {
     let mut w = [0; 64];
-    let (words, _) = block.as_chunks::<4>();
-    // No zip with `w`: of what a zip over `iter_mut` has written a proof knows nothing.
-    for (t, word) in words.iter().enumerate() {
-        w[t] = u32::from_be_bytes(*word);
-    }
+    w[..16].copy_from_slice(&block_words(block));
     // Each word is made of words before it, so this loop needs the index.
     for t in 16..64 {
         w[t] = small_sigma::<17, 19, 10>(w[t - 2])
@@ -158,7 +162,7 @@ fn compress(state: [u32; 8], block: &[u8; 64]) -> [u32; 8]
     for (t, k) in ROUND_CONSTANTS.iter().enumerate() {
         s = round(s, *k, w[t]);
     }
-    // No zip with `state`, for the reason above.
+    // No zip with `state`: of what a zip over `iter_mut` has written a proof knows nothing.
     for (i, word) in s.iter_mut().enumerate() {
         *word = word.wrapping_add(state[i]);
     }
