@@ -54,10 +54,8 @@ fn filled(heap: Global, words: &[[u8; 4]]) -> Result<Vec<u32>, AllocError>
     requires { length words.now ≤ 65536 }
     ensures { IfOk result (λ v. v.items ≡ map word_in words.now ++ replicate (65536 - length words.now) 0) }
 {
-    let mut memory: Vec<u32> = words
-        .iter()
-        .map(|word| u32::from_be_bytes(*word))
-        .collect(heap)?;
+    let mut memory = Vec::with_capacity(heap, WORDS)?;
+    memory.extend(words.iter().map(|word| u32::from_be_bytes(*word)))?;
     memory.resize(WORDS, 0)?;
     Ok(memory)
 }
