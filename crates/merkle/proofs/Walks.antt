@@ -25,11 +25,14 @@ module _ (h : Hash) (j : ℕ) (d : Bytes) (ss : List Bytes) (i : ℕ) (past : le
   unfolding seen_all way_preimages
   seen_all_lem adds s = at_drop_all (λ xs. seen_all adds s (way_preimages h j d xs)) ss i past
 
--- the word comes first
-pub seen_word : {S : Type 0} (adds : S → Bytes → S) (h : Hash) (i j w : ℕ) (d : Bytes) (ss : List Bytes) (s t : S) → j ≡ i → d ≡ h (word_preimage w) → t ≡ adds s (word_preimage w) →
-    seen_all adds t (way_preimages h j d ss) ≡ seen_all adds s (opening_preimages h i w ss)
-unfolding seen_all
-seen_word adds h i j w d ss s t at is it = λ l. seen_all adds (it l) (way_preimages h (at l) (is l) ss)
+-- the word comes first; ts are the siblings as they were handed on
+module _ (h : Hash) (i j w : ℕ) (d : Bytes) (ss ts : List Bytes) (at : j ≡ i) (is : d ≡ h (word_preimage w)) (same : ts ≡ ss) where
+  pub climb_word : climb h j d ts ≡ climb h i (h (word_preimage w)) ss
+  climb_word = λ l. climb h (at l) (is l) (same l)
+
+  pub seen_word : {S : Type 0} (adds : S → Bytes → S) (s t : S) → t ≡ adds s (word_preimage w) → seen_all adds t (way_preimages h j d ts) ≡ seen_all adds s (opening_preimages h i w ss)
+  unfolding seen_all
+  seen_word adds s t it = λ l. seen_all adds (it l) (way_preimages h (at l) (is l) (same l))
 
 pub way_count : (h : Hash) (j : ℕ) (d : Bytes) (ss : List Bytes) → length (way_preimages h j d ss) ≡ length ss
 unfolding way_preimages

@@ -24,7 +24,7 @@ pub trait Digester {
 
     ghost Seen: { Type 0 };
 
-    // Each call that digests says by a clause of its own which strings this goes on by.
+    // Each call that digests has a clause on which strings it adds.
     ghost seen: { Self → Seen };
 
     ghost adds: { Seen → List ℕ → Seen };

@@ -1,7 +1,7 @@
 // Openings of single words.
 ghost use Rattle.std.specs.Prelude.{◌≡◌, ℕ, ◌+◌, ◌/◌, ◌<◌, true, ◌⊎◌, length, if◌then◌else◌, Some, None, slice_set, bytes_eq};
 ghost use Rattle.merkle.specs.Bytes.{word_preimage};
-ghost use Rattle.merkle.specs.Tree.{root, root_from, parent_preimage, opening_preimages, sibling as sibling_of};
+ghost use Rattle.merkle.specs.Tree.{root, root_from, parent_preimage, climb, way_preimages, opening_preimages, sibling as sibling_of};
 ghost use Rattle.merkle.specs.Seen.{seen_all};
 ghost use Rattle.merkle.specs.Strings.{bytes_of, two_bytes};
 ghost use Rattle.merkle.specs.Collision.{difference as differing, or_else, last_difference, WayCollision};
@@ -26,11 +26,9 @@ fn differ(
 ) -> Option<(Preimage, Preimage)>
     ensures { two_bytes result ≡ or_else (differing (bytes_of one) (bytes_of other)) (two_bytes before) }
 {
-    if one.as_bytes() == other.as_bytes() {
-        before
-    } else {
-        Some((one, other))
-    }
+    (one.as_bytes() != other.as_bytes())
+        .then_some((one, other))
+        .or(before)
 }
 
 // The node with the same parent as node `index`.
@@ -74,6 +72,17 @@ impl Climber {
         self.index /= 2;
         Preimage::Pair(string)
     }
+
+    // The digest at the end of the way beside these siblings, the lowest first.
+    fn climb<D: Digester>(mut self, digester: &mut D, siblings: &[Digest]) -> Digest
+        ensures value { result ≡ climb D.hash self.index self.digest siblings.now }
+        ensures seen { D.seen digester.new ≡ seen_all D.adds (D.seen digester.old) (way_preimages D.hash self.index self.digest siblings.now) }
+    {
+        for sibling in siblings {
+            self.up(digester, sibling);
+        }
+        self.digest
+    }
 }
 
 impl Opening {
@@ -83,11 +92,8 @@ impl Opening {
         ensures seen { D.seen digester.new ≡ seen_all D.adds (D.seen digester.old) (opening_preimages D.hash place self.now.word self.now.siblings) }
         ensures count { length (opening_preimages D.hash place self.now.word self.now.siblings) ≡ 17 }
     {
-        let (mut climber, _) = Climber::at(digester, u32::from(place), self.word);
-        for sibling in &self.siblings {
-            climber.up(digester, sibling);
-        }
-        climber.digest
+        let (climber, _) = Climber::at(digester, u32::from(place), self.word);
+        climber.climb(digester, &self.siblings)
     }
 
     // The honest opening of a place. It gives the root, and with another word the root of the memory with that word.
@@ -150,8 +156,7 @@ impl Opening {
         for (sibling, other_sibling) in one.siblings.iter().zip(&other.siblings) {
             let pair = way.up(digester, sibling);
             let other_pair = other_way.up(digester, other_sibling);
-            let higher = differ(pair, other_pair, found);
-            found = higher;
+            found = differ(pair, other_pair, found);
         }
         found
     }

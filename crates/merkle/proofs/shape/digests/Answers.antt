@@ -1,5 +1,4 @@
-use Rattle.std.proofs.Common.{sym, refl, ap, ◌∙◌}
-use Rattle.std.proofs.lemmas.List.{take_all}
+use Rattle.std.proofs.Common.{refl}
 use Rattle.merkle.specs.Bytes.{all_digests}
 use Rattle.merkle.proofs.Shapes.{digests_more}
 use Rattle.merkle.proofs.shape.digests.Goals as goal

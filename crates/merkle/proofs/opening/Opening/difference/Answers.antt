@@ -17,7 +17,7 @@ loop-sibling-preserved g c =
     let one = ap (parent_preimage l.way.index l.way.digest) (turn.2 []) in
     let other = ap (parent_preimage l.other_way.index l.other_way.digest) (turn.3 []) in
     search_more h l.way.index l.other_way.index _ _ l.way.digest l.other_way.digest _ _ _ _ _ _ (length l.yielded) turn.0 turn.1 u.index v.index
-    (u.value ∙ ap h one) (v.value ∙ ap h other) (u.string ∙ one) (v.string ∙ other) _ _ _ (length_push l.yielded _) c.differ-higher.ensures ∙ l.invariant
+    (u.value ∙ ap h one) (v.value ∙ ap h other) (u.string ∙ one) (v.string ∙ other) _ _ _ (length_push l.yielded _) c.differ-found-in-loop-sibling.ensures ∙ l.invariant
 
 pub returns : goal.returns
 returns g c =
