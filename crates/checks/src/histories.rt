@@ -24,8 +24,7 @@ fn found(rt: &impl Abort, heap: Global, history: &History, steps: u64) -> Result
     let end = machine::run(&mut memory, Cpu::default(), steps, &mut Unwatched).ok_or_else(
         || Fail::new("refused"),
     )?;
-    assert_eq!(rt; cpu.place, end.place);
-    assert_eq!(rt; cpu.register, end.register);
+    assert_eq!(rt; cpu, end);
     assert!(rt; words == memory);
     assert_eq!(rt;
         history.digest_at(&mut Sha256, steps)?,

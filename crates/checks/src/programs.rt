@@ -89,8 +89,11 @@ fn register_is_stored(rt: HostRuntime) -> Result<(), Fail> {
     let cpu = machine::run(&mut memory, Cpu::default(), 3, &mut Unwatched).ok_or_else(|| Fail::new(
         "refused",
     ))?;
-    assert_eq!(rt; cpu.place, 0);
-    assert_eq!(rt; cpu.register, 7);
+    let end = Cpu {
+        place: 0,
+        register: 7,
+    };
+    assert_eq!(rt; cpu, end);
     assert_eq!(rt; memory.get(100).copied(), Some(7));
     Ok(())
 }

@@ -2,7 +2,7 @@
 use crate::digesters::{Counted, Weak};
 use digests::Sha256;
 use machine::{Cpu, Unwatched};
-use merkle::{Digest, Digester, Opening};
+use merkle::{Digest, Digester, LEVELS, Opening};
 use std::alloc::Global;
 use std::test::Fail;
 use text::program;
@@ -41,7 +41,7 @@ fn memory(heap: Global, instruction: u32) -> Result<Vec<u32>, Fail> {
     Ok(memory)
 }
 
-// Each number from 0 to 8, and the largest; at most 36 digests, 53 for the store.
+// Each number from 0 to 8, and the largest; 36 digests, 53 for the store.
 #[test]
 fn honest_steps_are_accepted(rt: HostRuntime) -> Result<(), Fail> {
     for number in [0u32, 1, 2, 3, 4, 5, 6, 7, 8, 65535] {
@@ -160,7 +160,7 @@ fn damaged_siblings_are_refused(rt: HostRuntime) -> Result<(), Fail> {
     };
     let honest = one_step(&mut Sha256, &mut memory, cpu)?;
     let w = honest.witness;
-    for level in 0..16 {
+    for level in 0..LEVELS {
         let instruction = damaged(&w.instruction, level);
         let operand = damaged(&w.operand, level);
         let one = Witness { instruction, ..w };

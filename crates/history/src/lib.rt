@@ -39,7 +39,7 @@ pub struct History {
 }
 
 // The machine at some point of a program's run.
-#[derive(Drop)]
+#[derive(Clone, Drop)]
 struct Snapshot {
     cpu: Cpu,
     memory: Vec<u32>,
@@ -54,17 +54,6 @@ impl Model for Snapshot {
 }
 
 impl Snapshot {
-    // Another one, at the same point.
-    fn copied(&self) -> Result<Snapshot, AllocError>
-        ensures { IfOk result (λ s. s ≡ self.now) }
-    {
-        let memory = Vec::from_slice(*self.memory.allocator(), &self.memory)?;
-        Ok(Snapshot {
-            cpu: self.cpu,
-            memory,
-        })
-    }
-
     // Runs so many steps.
     fn run_on(&mut self, steps: u64)
         ensures { self.new ≡ runs steps self.old }
@@ -107,7 +96,7 @@ impl Snapshot {
         ensures state { OnOk result (self.new ≡ runs spacing self.old) }
         ensures slice { IfOk result (λ x. after x self.old ≡ self.new) }
     {
-        let before = self.copied()?;
+        let before = self.clone()?;
         self.run_on(SPACING);
         let changes = self.changes_since(&before)?;
         let cpu = self.cpu;
@@ -136,6 +125,7 @@ impl History {
         requires { slices ≤ vec_len self.now.slices }
         ensures { IfOk result (λ s. s ≡ runs (slices * spacing) (start self.now.program.items)) }
     {
+        // No clone: its contract leaves open which words it copies.
         let memory = Vec::from_slice(*self.program.allocator(), &self.program)?;
         let mut state = Snapshot {
             cpu: Cpu::default(),

@@ -42,7 +42,7 @@ pub fn place_of(word: u32) -> u16
 }
 
 impl Instruction {
-    // The instruction of a number and a place: the one point where the table's numbers become kinds.
+    // The instruction of a number and a place; the numbers of the table stand here alone.
     fn numbered(number: u32, place: u16) -> Instruction
         ensures { result ≡ instruction number place }
     {
@@ -167,9 +167,7 @@ pub fn run<W: Watch>(memory: &mut [u32], cpu: Cpu, steps: u64, watch: &mut W) ->
     ensures cpu { result ≡ (if eqb (length memory.old) 65536 then Some (runs steps (record { cpu = cpu; memory = memory.old })).cpu else None) }
     ensures memory { memory.new ≡ (if eqb (length memory.old) 65536 then (runs steps (record { cpu = cpu; memory = memory.old })).memory else memory.old) }
 {
-    let Some(memory) = memory.as_mut_array::<WORDS>() else {
-        return None;
-    };
+    let memory = memory.as_mut_array::<WORDS>()?;
     let mut cpu = cpu;
     for done in (0..steps).step_by(SLICE) {
         let slice = (steps - done).min(SLICE as u64);

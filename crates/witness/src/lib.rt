@@ -105,12 +105,12 @@ impl Witness {
         }
         let stored = Opening {
             word: self.register,
-            siblings: self.operand.siblings,
+            ..self.operand
         };
         stored.climb(digester, place_of(self.instruction.word))
     }
 
-    // The digest of the next state; place, register, instruction and operand were checked.
+    // The digest of the next state; only what was checked is handed on.
     fn next_digest<D: Digester>(
         &self,
         digester: &mut D,
@@ -131,6 +131,7 @@ impl Witness {
     }
 
     // Who wins: the claimer where everything fits the digest at the beginning and gives the one at the end.
+    // Test by test, and what does not fit is the doubter's win; what follows from it is shown in `judge`.
     fn decide<D: Digester>(&self, digester: &mut D, start: &Digest, end: &Digest) -> Party
         ensures value { result ≡ verdict D.hash start.now self.now end.now }
         ensures seen { D.seen digester.new ≡ seen_all D.adds (D.seen digester.old) (digested D.hash start.now self.now) }
