@@ -1,7 +1,7 @@
 // The states that a party keeps of its own run: after each 2^20 steps, what has changed since the state before.
 #![tactic(auto)]
 
-ghost use Rattle.std.specs.Prelude.{◌≡◌, ◌+◌, ◌*◌, ◌/◌, ◌^◌, ◌<◌, ◌≤◌, max, true, length, is_ok, IfOk, if◌then◌else◌, vec_len, MatchOption, OnOk, ◌≢◌};
+ghost use Rattle.std.specs.Prelude.{◌≡◌, ◌+◌, ◌*◌, ◌/◌, ◌^◌, ◌<◌, ◌≤◌, max, true, is_ok, IfOk, if◌then◌else◌, vec_len, MatchOption, OnOk, ◌≢◌};
 ghost use Rattle.machine.specs.Machine.{State, start, step, run as runs, digest as digests};
 ghost use Rattle.witness.specs.Witness.{witness as shown, accepts};
 ghost use Rattle.history.specs.Keeping.{Keeps, after, differing, patched, spacing};

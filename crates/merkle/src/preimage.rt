@@ -1,5 +1,5 @@
 // The three kinds of strings that are digested, and their digests.
-ghost use Rattle.std.specs.Prelude.{◌≡◌, ◌+◌, ◌≤◌, ◌++◌, length, take};
+ghost use Rattle.std.specs.Prelude.{◌≡◌};
 ghost use Rattle.merkle.specs.Bytes.{word_preimage, pair_preimage, state_preimage};
 ghost use Rattle.merkle.specs.Tree.{parent_preimage};
 ghost use Rattle.merkle.specs.Strings.{bytes_of};

@@ -6,7 +6,7 @@ ghost use Rattle.merkle.specs.Bytes.{Hash};
 ghost use Rattle.merkle.specs.Seen.{seen_all};
 ghost use Rattle.merkle.specs.Strings.{two_bytes};
 ghost use Rattle.machine.specs.Machine.{State, stores as storing, step, digest};
-ghost use Rattle.witness.specs.Witness.{Valid, Collides, witness as shown, accepts, verdict, shaped, fits, root_next, next_part, state_part, state_fits, store_part, instruction_of, digested, first_difference, Found};
+ghost use Rattle.witness.specs.Witness.{Valid, Collides, witness as shown, accepts, verdict, shaped, root_next, next_part, state_part, state_fits, store_part, instruction_of, digested, first_difference, Found};
 ghost use Rattle.witness.specs.Name.{name};
 ghost use Rattle.witness.specs.Laws.{Agree, MachineLawful};
 ghost use Rattle.witness.specs.declared.Party.TheVariants.{Claimer};
