@@ -121,8 +121,7 @@ impl Case<Phase> {
             return (self, Err(Refusal::WrongDay));
         }
         let phase = self.phase.at_dawn(self.since, day);
-        let since = self.since;
-        (Case { day, since, phase }, Ok(()))
+        (Case { day, phase, ..self }, Ok(()))
     }
 }
 
