@@ -83,7 +83,17 @@ impl fmt::Display for Refusal {
     }
 }
 
+impl std::error::Error for Refusal {}
+
 impl Refusal {
+    // All of them, for whoever wants to know which one a text is.
+    pub const ALL: [Refusal; 4] = [
+        Refusal::Unreadable,
+        Refusal::OutOfTurn,
+        Refusal::OutOfPlace,
+        Refusal::WrongDay,
+    ];
+
     // The number by which it is answered; the rules give it, and it is what is printed.
     pub fn number(self) -> u8
         ensures { result ≡ refusal_number self }
