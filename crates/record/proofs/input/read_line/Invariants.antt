@@ -4,7 +4,7 @@ use Rattle.merkle.specs.Bytes.{Bytes}
 use Rattle.record.specs.Held.{bounded}
 use Rattle.record.proofs.input.read_line.Given as goal
 
--- of the bytes xs the first n, the ones in p have come, none of them a line feed, and ys are left
+-- of the bytes xs the first n, the ones in p, have come, none of them a line feed, and ys are left
 pub record Parted (n : ℕ) (xs ys p : Bytes) : Type 0 where
   pub whole : xs ≡ p ++ ys
   pub taken : take_through 10 xs ≡ p ++ take_through 10 ys
