@@ -5,6 +5,9 @@ use std::{fmt, io};
 use text::program::LoadError;
 use text::report::Report;
 
+const USAGE: &str =
+    "usage: party FILE claimer N, or party FILE doubter    (FILE: a program, N: from 1 to 32; the record of the case on standard input)";
+
 #[derive(Debug, Drop)]
 pub(crate) enum Failure {
     Arguments,
@@ -52,12 +55,8 @@ impl From<AllocError> for Failure {
     }
 }
 
-impl Report for Failure {
-    const PROGRAM: &'static str = "party";
-
-    const USAGE: &'static str =
-        "usage: party FILE claimer N, or party FILE doubter    (FILE: a program, N: from 1 to 32; the record of the case on standard input)";
-
+impl Failure {
+    // Whether the call was wrong.
     fn is_usage(&self) -> bool {
         matches!(
             self,
@@ -70,6 +69,17 @@ impl Report for Failure {
         match self {
             Failure::Program(_, e) => e.number(),
             _ => None,
+        }
+    }
+}
+
+impl From<Failure> for Report<Failure> {
+    fn from(failure: Failure) -> Report<Failure> {
+        Report {
+            program: "party",
+            usage: failure.is_usage().then_some(USAGE),
+            number: failure.number(),
+            reason: failure,
         }
     }
 }

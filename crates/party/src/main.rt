@@ -13,7 +13,8 @@ use seat::Seat;
 use std::env;
 use std::io::BufReader;
 use std::process::ExitCode;
-use text::{files, number, program, report};
+use text::report::{self, Report};
+use text::{files, number, program};
 
 fn claimer(n: &str) -> Result<Role, Failure> {
     match number::parse(n.as_bytes(), 32) {
@@ -77,5 +78,5 @@ fn play(rt: &HostRuntime) -> Result<(), Failure> {
 }
 
 fn main(rt: HostRuntime) -> ExitCode {
-    report::status(&rt, play(&rt))
+    report::status(&rt, play(&rt).map_err(Report::from))
 }

@@ -4,6 +4,9 @@ use std::error::Error;
 use std::{fmt, io};
 use text::report::Report;
 
+const USAGE: &str =
+    "usage: referee    (lines on standard input: case DIGEST, then claimer HEX, doubter HEX, day D)";
+
 #[derive(Debug, Drop)]
 pub(crate) enum Failure {
     Arguments,
@@ -45,17 +48,14 @@ impl From<AllocError> for Failure {
     }
 }
 
-impl Report for Failure {
-    const PROGRAM: &'static str = "referee";
-
-    const USAGE: &'static str =
-        "usage: referee    (lines on standard input: case DIGEST, then claimer HEX, doubter HEX, day D)";
-
-    fn is_usage(&self) -> bool {
-        matches!(self, Failure::Arguments | Failure::NoCase)
-    }
-
-    fn number(&self) -> Option<u8> {
-        None
+impl From<Failure> for Report<Failure> {
+    fn from(failure: Failure) -> Report<Failure> {
+        let usage = matches!(failure, Failure::Arguments | Failure::NoCase);
+        Report {
+            program: "referee",
+            usage: usage.then_some(USAGE),
+            number: None,
+            reason: failure,
+        }
     }
 }

@@ -7,6 +7,9 @@ use std::{fmt, io};
 use text::program::LoadError;
 use text::report::Report;
 
+const USAGE: &str =
+    "usage: run FILE K    (FILE: a program, K: a number of steps from 0 to 4294967296)";
+
 #[derive(Debug, Drop)]
 pub enum Failure {
     Call(io::Error),
@@ -32,12 +35,7 @@ impl fmt::Display for Failure {
 
 impl Error for Failure {}
 
-impl Report for Failure {
-    const PROGRAM: &'static str = "run";
-
-    const USAGE: &'static str =
-        "usage: run FILE K    (FILE: a program, K: a number of steps from 0 to 4294967296)";
-
+impl Failure {
     // Whether the call was wrong.
     fn is_usage(&self) -> bool
         ensures { result ≡ is_usage self.now }
@@ -52,6 +50,17 @@ impl Report for Failure {
         match self {
             Failure::Program(_, e) => e.number(),
             _ => None,
+        }
+    }
+}
+
+impl From<Failure> for Report<Failure> {
+    fn from(failure: Failure) -> Report<Failure> {
+        Report {
+            program: "run",
+            usage: failure.is_usage().then_some(USAGE),
+            number: failure.number(),
+            reason: failure,
         }
     }
 }
