@@ -1,63 +1,35 @@
 // Why a party stops before its case is over.
 use std::alloc::AllocError;
-use std::error::Error;
-use std::{fmt, io};
+use std::io;
 use text::program::LoadError;
 use text::report::Report;
+use thiserror::Error;
 
-#[derive(Debug, Drop)]
+const USAGE: &str =
+    "usage: party FILE claimer N, or party FILE doubter    (FILE: a program, N: from 1 to 32; the record of the case on standard input)";
+
+#[derive(Debug, Drop, Error)]
 pub(crate) enum Failure {
+    #[error("a program file and a side are wanted")]
     Arguments,
+    #[error("N is no number from 1 to 32")]
     Exponent,
-    NoMemory,
+    #[error("there is no memory for the run")]
+    NoMemory(#[from] AllocError),
+    #[error("{0}: {1}")]
     File(String, io::Error),
+    #[error("{0}: {1}")]
     Program(String, LoadError),
+    #[error("line {0} of the record and its answer cannot be a referee's")]
     Record(u64),
-    Input(io::Error),
+    #[error("the record cannot be read: {0}")]
+    Input(#[from] io::Error),
+    #[error("the message cannot be printed: {0}")]
     Output(io::Error),
 }
 
-impl fmt::Display for Failure {
-    fn fmt<W: fmt::Write>(&self, f: &mut fmt::Formatter<W>) -> fmt::Result {
-        match self {
-            Failure::Arguments => write!(f, "a program file and a side are wanted"),
-            Failure::Exponent => write!(f, "N is no number from 1 to 32"),
-            Failure::NoMemory => write!(f, "there is no memory for the run"),
-            Failure::File(path, e) => write!(f, "{path}: {e}"),
-            Failure::Program(path, e) => write!(f, "{path}: {e}"),
-            Failure::Record(line) => {
-                write!(
-                    f,
-                    "line {line} of the record and its answer cannot be a referee's"
-                )
-            }
-            Failure::Input(e) => write!(f, "the record cannot be read: {e}"),
-            Failure::Output(e) => write!(f, "the message cannot be printed: {e}"),
-        }
-    }
-}
-
-impl Error for Failure {}
-
-// By hand in each program: an impl that a macro writes is refused.
-impl From<io::Error> for Failure {
-    fn from(e: io::Error) -> Failure {
-        Failure::Input(e)
-    }
-}
-
-impl From<AllocError> for Failure {
-    fn from(_: AllocError) -> Failure {
-        Failure::NoMemory
-    }
-}
-
-impl Report for Failure {
-    const PROGRAM: &'static str = "party";
-
-    const USAGE: &'static str =
-        "usage: party FILE claimer N, or party FILE doubter    (FILE: a program, N: from 1 to 32; the record of the case on standard input)";
-
+impl Failure {
+    // Whether the call was wrong.
     fn is_usage(&self) -> bool {
         matches!(
             self,
@@ -70,6 +42,17 @@ impl Report for Failure {
         match self {
             Failure::Program(_, e) => e.number(),
             _ => None,
+        }
+    }
+}
+
+impl From<Failure> for Report<Failure> {
+    fn from(failure: Failure) -> Report<Failure> {
+        Report {
+            program: "party",
+            usage: failure.is_usage().then_some(USAGE),
+            number: failure.number(),
+            reason: failure,
         }
     }
 }

@@ -13,13 +13,14 @@ use seat::Seat;
 use std::env;
 use std::io::BufReader;
 use std::process::ExitCode;
-use text::{files, number, program, report};
+use text::report::{self, Report};
+use text::{files, number, program};
 
 fn claimer(n: &str) -> Result<Role, Failure> {
-    match number::parse(n.as_bytes(), 32) {
-        Some(n) if n >= 1 => Ok(Role::Claimer(n as u8)),
-        _ => Err(Failure::Exponent),
-    }
+    number::parse(n.as_bytes(), 32)
+        .filter(|n| *n >= 1)
+        .map(|n| Role::Claimer(n as u8))
+        .ok_or(Failure::Exponent)
 }
 
 // The program file and the side.
@@ -50,6 +51,7 @@ fn load(rt: &HostRuntime, path: String) -> Result<Vec<u32>, Failure> {
 fn enlist(rt: &HostRuntime) -> Result<Seat<'_>, Failure> {
     let (path, role) = arguments(rt)?;
     let program = load(rt, path)?;
+    // There is always one: N and the program's size were seen to before.
     let player = Player::new(rt.alloc(), &mut Sha256, role, program)?.ok_or(Failure::Exponent)?;
     Ok(Seat { rt, player })
 }
@@ -61,14 +63,14 @@ fn play(rt: &HostRuntime) -> Result<(), Failure> {
     let mut input = BufReader::new(rt.alloc(), rt.stdin())?;
     let mut exchange = Exchange::new(rt.alloc());
     // It waits on input: the record ends the loop, never the count.
-    for pair in 0..u64::MAX / 2 {
+    for number in (1..u64::MAX).step_by(2) {
         if !exchange.read(&mut input)? {
             return Ok(());
         }
-        if pair == 0 && seat.opens(&exchange)? {
+        if number == 1 && seat.opens(&exchange)? {
             continue;
         }
-        seat.follow(&exchange, 2 * pair + 1)?;
+        seat.follow(&exchange, number)?;
         if seat.is_over() {
             return Ok(());
         }
@@ -77,5 +79,5 @@ fn play(rt: &HostRuntime) -> Result<(), Failure> {
 }
 
 fn main(rt: HostRuntime) -> ExitCode {
-    report::status(&rt, play(&rt))
+    report::status(&rt, play(&rt).map_err(Report::from))
 }

@@ -51,7 +51,7 @@ impl Seat<'_> {
         Ok(false)
     }
 
-    // The first line of a record may open the case; true where it did.
+    // The first line of a record may open the case; true where the answer takes it.
     pub(crate) fn opens(&mut self, exchange: &Exchange) -> Result<bool, Failure> {
         let Some(start) = record::opening(self.rt.alloc(), &exchange.line)? else {
             return Ok(false);
@@ -100,10 +100,12 @@ impl Seat<'_> {
         if !self.reads(&exchange.answer, Ok(()))? {
             return Err(Failure::Record(number));
         }
-        match (self.player.referee.case.phase, self.player.role) {
-            (Phase::Over(Party::Claimer), Role::Doubter) => self.print_collision(&before, &entry),
-            (Phase::Over(_), _) => Ok(()),
-            _ if matches!(entry, Entry::Sent(_, _)) => self.speak(),
+        match (self.player.referee.case.phase, self.player.role, &entry) {
+            (Phase::Over(Party::Claimer), Role::Doubter, _) => {
+                self.print_collision(&before, &entry)
+            }
+            (Phase::Over(_), _, _) => Ok(()),
+            (_, _, Entry::Sent(_, _)) => self.speak(),
             _ => Ok(()),
         }
     }

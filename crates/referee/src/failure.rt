@@ -1,61 +1,34 @@
 // Why the referee stops.
 use std::alloc::AllocError;
-use std::error::Error;
-use std::{fmt, io};
+use std::io;
 use text::report::Report;
+use thiserror::Error;
 
-#[derive(Debug, Drop)]
+const USAGE: &str =
+    "usage: referee    (lines on standard input: case DIGEST, then claimer HEX, doubter HEX, day D)";
+
+#[derive(Debug, Drop, Error)]
 pub(crate) enum Failure {
+    #[error("no arguments are wanted")]
     Arguments,
+    #[error("the first line is not `case` and a digest of 64 hexadecimal digits")]
     NoCase,
-    NoMemory,
-    Input(io::Error),
+    #[error("there is no memory for a line")]
+    NoMemory(#[from] AllocError),
+    #[error("the lines cannot be read: {0}")]
+    Input(#[from] io::Error),
+    #[error("the answer cannot be printed: {0}")]
     Output(io::Error),
 }
 
-impl fmt::Display for Failure {
-    fn fmt<W: fmt::Write>(&self, f: &mut fmt::Formatter<W>) -> fmt::Result {
-        match self {
-            Failure::Arguments => write!(f, "no arguments are wanted"),
-            Failure::NoCase => {
-                write!(
-                    f,
-                    "the first line is not `case` and a digest of 64 hexadecimal digits"
-                )
-            }
-            Failure::NoMemory => write!(f, "there is no memory for a line"),
-            Failure::Input(e) => write!(f, "the lines cannot be read: {e}"),
-            Failure::Output(e) => write!(f, "the answer cannot be printed: {e}"),
+impl From<Failure> for Report<Failure> {
+    fn from(failure: Failure) -> Report<Failure> {
+        let usage = matches!(failure, Failure::Arguments | Failure::NoCase);
+        Report {
+            program: "referee",
+            usage: usage.then_some(USAGE),
+            number: None,
+            reason: failure,
         }
-    }
-}
-
-impl Error for Failure {}
-
-// By hand in each program: an impl that a macro writes is refused.
-impl From<io::Error> for Failure {
-    fn from(e: io::Error) -> Failure {
-        Failure::Input(e)
-    }
-}
-
-impl From<AllocError> for Failure {
-    fn from(_: AllocError) -> Failure {
-        Failure::NoMemory
-    }
-}
-
-impl Report for Failure {
-    const PROGRAM: &'static str = "referee";
-
-    const USAGE: &'static str =
-        "usage: referee    (lines on standard input: case DIGEST, then claimer HEX, doubter HEX, day D)";
-
-    fn is_usage(&self) -> bool {
-        matches!(self, Failure::Arguments | Failure::NoCase)
-    }
-
-    fn number(&self) -> Option<u8> {
-        None
     }
 }

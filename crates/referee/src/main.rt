@@ -10,7 +10,7 @@ use record::{Line, read_line};
 use std::env;
 use std::io::BufReader;
 use std::process::ExitCode;
-use text::report;
+use text::report::{self, Report};
 
 // Prints what became of a line, and how the case stands then.
 fn print_answer(rt: &HostRuntime, answer: Answer, referee: &Referee) -> Result<(), Failure> {
@@ -50,5 +50,5 @@ fn hear(rt: &HostRuntime) -> Result<(), Failure> {
 }
 
 fn main(rt: HostRuntime) -> ExitCode {
-    report::status(&rt, hear(&rt))
+    report::status(&rt, hear(&rt).map_err(Report::from))
 }

@@ -2,42 +2,31 @@
 ghost use Rattle.std.specs.Prelude.{◌≡◌};
 ghost use Rattle.run.specs.Failures.{is_usage, number_of};
 
-use std::error::Error;
-use std::{fmt, io};
+use std::io;
 use text::program::LoadError;
 use text::report::Report;
+use thiserror::Error;
 
-#[derive(Debug, Drop)]
+const USAGE: &str =
+    "usage: run FILE K    (FILE: a program, K: a number of steps from 0 to 4294967296)";
+
+#[derive(Debug, Drop, Error)]
 pub enum Failure {
+    #[error("the arguments cannot be read: {0}")]
     Call(io::Error),
+    #[error("a program file and a number of steps are wanted")]
     Arguments,
+    #[error("K is no number from 0 to 4294967296")]
     Steps,
+    #[error("{0}: {1}")]
     File(String, io::Error),
+    #[error("{0}: {1}")]
     Program(String, LoadError),
+    #[error("the line cannot be printed: {0}")]
     Output(io::Error),
 }
 
-impl fmt::Display for Failure {
-    fn fmt<W: fmt::Write>(&self, f: &mut fmt::Formatter<W>) -> fmt::Result {
-        match self {
-            Failure::Call(e) => write!(f, "the arguments cannot be read: {e}"),
-            Failure::Arguments => write!(f, "a program file and a number of steps are wanted"),
-            Failure::Steps => write!(f, "K is no number from 0 to 4294967296"),
-            Failure::File(path, e) => write!(f, "{path}: {e}"),
-            Failure::Program(path, e) => write!(f, "{path}: {e}"),
-            Failure::Output(e) => write!(f, "the line cannot be printed: {e}"),
-        }
-    }
-}
-
-impl Error for Failure {}
-
-impl Report for Failure {
-    const PROGRAM: &'static str = "run";
-
-    const USAGE: &'static str =
-        "usage: run FILE K    (FILE: a program, K: a number of steps from 0 to 4294967296)";
-
+impl Failure {
     // Whether the call was wrong.
     fn is_usage(&self) -> bool
         ensures { result ≡ is_usage self.now }
@@ -52,6 +41,17 @@ impl Report for Failure {
         match self {
             Failure::Program(_, e) => e.number(),
             _ => None,
+        }
+    }
+}
+
+impl From<Failure> for Report<Failure> {
+    fn from(failure: Failure) -> Report<Failure> {
+        Report {
+            program: "run",
+            usage: failure.is_usage().then_some(USAGE),
+            number: failure.number(),
+            reason: failure,
         }
     }
 }

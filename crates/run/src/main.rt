@@ -10,7 +10,8 @@ use failure::Failure;
 use std::env;
 use std::process::ExitCode;
 use text::progress::Progress;
-use text::{files, line, number, report};
+use text::report::{self, Report};
+use text::{files, line, number};
 
 const MOST_STEPS: u64 = 1 << 32;
 
@@ -46,5 +47,5 @@ fn print_answer(rt: &HostRuntime) -> Result<(), Failure> {
 }
 
 fn main(rt: HostRuntime) -> ExitCode {
-    report::status(&rt, print_answer(&rt))
+    report::status(&rt, print_answer(&rt).map_err(Report::from))
 }

@@ -5,14 +5,16 @@ ghost use Rattle.text.specs.Program.{Made, program, refusal, word_in};
 
 use machine::WORDS;
 use std::alloc::{AllocError, Global};
-use std::error::Error;
-use std::fmt;
+use thiserror::Error;
 
 // Why there is no program.
-#[derive(Clone, Copy, Debug, PartialEq, Eq)]
+#[derive(Clone, Copy, Debug, PartialEq, Eq, Error)]
 pub enum LoadError {
+    #[error("the program file is not in whole words of 4 bytes")]
     NotWords,
+    #[error("the program file has more than 65536 words")]
     TooLong,
+    #[error("there is no memory for the program")]
     NoMemory,
 }
 
@@ -28,19 +30,7 @@ impl LoadError {
     }
 }
 
-impl fmt::Display for LoadError {
-    fn fmt<W: fmt::Write>(&self, f: &mut fmt::Formatter<W>) -> fmt::Result {
-        let reason = match self {
-            LoadError::NotWords => "the program file is not in whole words of 4 bytes",
-            LoadError::TooLong => "the program file has more than 65536 words",
-            LoadError::NoMemory => "there is no memory for the program",
-        };
-        write!(f, "{reason}")
-    }
-}
-
-impl Error for LoadError {}
-
+// By hand, since the contract of `load` needs to know which it gives.
 impl From<AllocError> for LoadError {
     ghost from_gives = { λ _ e. e ≡ NoMemory };
 

@@ -31,14 +31,13 @@ impl<'a> Progress<'a> {
     }
 
     // Whether a second has gone by since the last line.
-    fn due(&self) -> bool
+    fn is_due(&self) -> bool
         ensures { self.now.told ≡ None → result ≡ false }
     {
-        let Some(told) = self.told else {
-            return false;
-        };
-        told.elapsed(self.rt)
-            .is_ok_and(|time| time >= Duration::from_secs(1))
+        self.told.is_some_and(|told| {
+            told.elapsed(self.rt)
+                .is_ok_and(|time| time >= Duration::from_secs(1))
+        })
     }
 }
 
@@ -48,7 +47,7 @@ impl Watch for Progress<'_> {
         ensures same { self.new.steps ≡ self.old.steps }
         ensures short { self.old.steps ≤ 2 ^ 28 → self.new ≡ self.old }
     {
-        if self.steps <= SHORT || !self.due() {
+        if self.steps <= SHORT || !self.is_due() {
             return;
         }
         let _ = eprintln!(self.rt; "{}: {steps} of {} steps", self.name, self.steps);

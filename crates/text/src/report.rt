@@ -2,43 +2,37 @@
 ghost use Rattle.std.specs.Prelude.{◌≡◌, is_ok, if◌then◌else◌};
 ghost use Rattle.std.specs.Process.{exit_status};
 
-use std::error::Error;
+use std::fmt::Display;
 use std::process::ExitCode;
 
-// Why a program stops.
-pub trait Report: Error {
-    const PROGRAM: &'static str;
-
-    const USAGE: &'static str;
-
-    // Whether the usage helps.
-    fn is_usage(&self) -> bool;
-
-    // The number that goes to standard output, if there is one.
-    fn number(&self) -> Option<u8>;
+// Why a program stops; the usage where it helps, and the number that goes to standard output, if there is one.
+#[derive(Drop)]
+pub struct Report<E> {
+    pub program: &'static str,
+    pub reason: E,
+    pub usage: Option<&'static str>,
+    pub number: Option<u8>,
 }
 
-// The reason, and the usage where it helps, on standard error; the number on standard output.
-fn tell<F: Report>(rt: &HostRuntime, failure: &F) {
-    let program = F::PROGRAM;
-    let _ = eprintln!(rt; "{program}: {failure}");
-    if failure.is_usage() {
-        let usage = F::USAGE;
+// The reason and the usage on standard error; the number on standard output.
+fn tell<E: Display + Drop>(rt: &HostRuntime, report: &Report<E>) {
+    let _ = eprintln!(rt; "{}: {}", report.program, report.reason);
+    if let Some(usage) = report.usage {
         let _ = eprintln!(rt; "{usage}");
     }
-    if let Some(number) = failure.number() {
+    if let Some(number) = report.number {
         let _ = println!(rt; "{number}");
     }
 }
 
 // The status of a program with this outcome: 0, or 1 where it failed, which is told.
-pub fn status<F: Report>(rt: &HostRuntime, outcome: Result<(), F>) -> ExitCode
+pub fn status<E: Display + Drop>(rt: &HostRuntime, outcome: Result<(), Report<E>>) -> ExitCode
     ensures { exit_status result ≡ (if is_ok outcome then 0 else 1) }
 {
     match outcome {
         Ok(()) => ExitCode::SUCCESS,
-        Err(failure) => {
-            tell(rt, &failure);
+        Err(report) => {
+            tell(rt, &report);
             ExitCode::FAILURE
         }
     }
