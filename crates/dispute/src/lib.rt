@@ -14,6 +14,7 @@ mod turns;
 
 use merkle::Digest;
 pub use referee::Referee;
+use std::error::Error;
 use std::fmt;
 use witness::Party;
 
@@ -83,7 +84,7 @@ impl fmt::Display for Refusal {
     }
 }
 
-impl std::error::Error for Refusal {}
+impl Error for Refusal {}
 
 impl Refusal {
     // All of them, for whoever wants to know which one a text is.

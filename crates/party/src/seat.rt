@@ -38,12 +38,7 @@ impl Seat<'_> {
 
     // Whether the answer refuses, as the case stands.
     fn refuses(&self, answer: &Line) -> Result<bool, Failure> {
-        for refusal in [
-            Refusal::Unreadable,
-            Refusal::OutOfTurn,
-            Refusal::OutOfPlace,
-            Refusal::WrongDay,
-        ] {
+        for refusal in Refusal::ALL {
             if self.reads(answer, Err(refusal))? {
                 return Ok(true);
             }
