@@ -13,7 +13,7 @@ use merkle::{Digest, Digester};
 use witness::Party;
 
 // A case in the referee's hands: the steps in dispute are among the first 2^32.
-// A phase is an enum, which holds no fact of its own, so two private functions ask for this one.
+// A phase is an enum, which holds no fact of its own, so private functions ask for this one.
 #[derive(Clone, Copy)]
 pub struct Referee {
     pub case: Case<Phase>,

@@ -65,7 +65,7 @@ impl Instruction {
         matches!(self, Instruction::Store(_))
     }
 
-    // A word as an instruction.
+    // A word as an instruction. No From: it reads a word, of which any is one.
     #[tactic(auto, unfolding(crate::specs::Machine::decode))]
     pub fn decode(word: u32) -> Instruction
         ensures { result ≡ decoded word }

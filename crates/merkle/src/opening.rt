@@ -103,6 +103,7 @@ impl Opening {
         ensures updates { (v : ℕ) → place < length memory.now → opened D.hash place (record { word = v; siblings = result.siblings }) ≡ root D.hash (slice_set memory.now place v) }
     {
         let mut siblings = [[0; 32]; LEVELS];
+        // The node's own index, which halves from level to level.
         let mut index = place;
         for (level, beside) in siblings.iter_mut().enumerate() {
             *beside = node_digest(digester, memory, level as u32, sibling(index));

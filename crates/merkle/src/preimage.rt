@@ -74,6 +74,7 @@ pub fn state_preimage(place: u32, register: u32, memory: &Digest) -> [u8; 41]
     bytes
 }
 
+// This and the next two stay functions: a method of Preimage would wrap each string of a memory to digest it.
 pub(crate) fn word_digest<D: Digester>(digester: &mut D, word: u32) -> Digest
     ensures value { result ≡ D.hash (word_preimage word) }
     ensures seen { D.seen digester.new ≡ D.adds (D.seen digester.old) (word_preimage word) }

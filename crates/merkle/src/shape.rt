@@ -1,4 +1,4 @@
-// What the types say, as facts that a contract can name. Nothing here does anything.
+// What the types say, as facts that a contract can name. Nothing here does anything; a value is read where its range is only known then.
 ghost use Rattle.std.specs.Prelude.{◌≡◌, ◌^◌, ◌<◌, true};
 ghost use Rattle.merkle.specs.Bytes.{all_bytes, is_digest, all_digests};
 

@@ -20,7 +20,7 @@ impl Exchange {
         }
     }
 
-    // Reads the next one; false at the end of the record.
+    // Reads the next one; false at the end of the record, as `read_line` says it of a line.
     pub(crate) fn read(&mut self, input: &mut BufReader<Stdin>) -> Result<bool, Failure> {
         let more = read_line::<_, Failure>(input, &mut self.line)?;
         Ok(more && read_line::<_, Failure>(input, &mut self.answer)?)

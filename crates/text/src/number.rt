@@ -12,7 +12,7 @@ fn append(value: u64, byte: u8) -> Option<u64>
     value.checked_mul(10)?.checked_add(u64::from(byte - b'0'))
 }
 
-// A number of decimal digits alone, up to a limit.
+// A number of decimal digits alone, up to a limit. Not by str's parse, which takes a sign.
 pub fn parse(text: &[u8], limit: u64) -> Option<u64>
     ensures { result ≡ up_to limit (number text.now) }
 {

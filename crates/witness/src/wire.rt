@@ -58,6 +58,7 @@ impl Witness {
         ensures reads { parse 6 result ≡ Some self.now }
     {
         self.shape();
+        // Each part at its place in the form of the message.
         let mut bytes = [0; LENGTH];
         bytes[0..4].copy_from_slice(&self.place.to_be_bytes());
         bytes[4..8].copy_from_slice(&self.register.to_be_bytes());
