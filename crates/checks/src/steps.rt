@@ -41,6 +41,16 @@ fn memory(heap: Global, instruction: u32) -> Result<Vec<u32>, Fail> {
     Ok(memory)
 }
 
+// The step that stores 9 at place 100.
+fn honest_store(heap: Global) -> Result<Step, Fail> {
+    let mut memory = memory(heap, 0x0002_0064)?;
+    let cpu = Cpu {
+        place: 0,
+        register: 9,
+    };
+    one_step(&mut Sha256, &mut memory, cpu)
+}
+
 // Each number from 0 to 8, and the largest; 36 digests, 53 for the store.
 #[test]
 fn honest_steps_are_accepted(rt: HostRuntime) -> Result<(), Fail> {
@@ -108,12 +118,7 @@ fn damaged(opening: &Opening, level: usize) -> Opening {
 
 #[test]
 fn damaged_fields_are_refused(rt: HostRuntime) -> Result<(), Fail> {
-    let mut memory = memory(rt.alloc(), 0x0002_0064)?;
-    let cpu = Cpu {
-        place: 0,
-        register: 9,
-    };
-    let honest = one_step(&mut Sha256, &mut memory, cpu)?;
+    let honest = honest_store(rt.alloc())?;
     let w = honest.witness;
     let other_word = reworded(&w.instruction, 0x0002_0065);
     let other_operand = reworded(&w.operand, 6);
@@ -153,12 +158,7 @@ fn damaged_fields_are_refused(rt: HostRuntime) -> Result<(), Fail> {
 
 #[test]
 fn damaged_siblings_are_refused(rt: HostRuntime) -> Result<(), Fail> {
-    let mut memory = memory(rt.alloc(), 0x0002_0064)?;
-    let cpu = Cpu {
-        place: 0,
-        register: 9,
-    };
-    let honest = one_step(&mut Sha256, &mut memory, cpu)?;
+    let honest = honest_store(rt.alloc())?;
     let w = honest.witness;
     for level in 0..LEVELS {
         let instruction = damaged(&w.instruction, level);
@@ -174,12 +174,7 @@ fn damaged_siblings_are_refused(rt: HostRuntime) -> Result<(), Fail> {
 // A witness comes back from its bytes.
 #[test]
 fn bytes_are_read_back(rt: HostRuntime) -> Result<(), Fail> {
-    let mut memory = memory(rt.alloc(), 0x0002_0064)?;
-    let cpu = Cpu {
-        place: 0,
-        register: 9,
-    };
-    let honest = one_step(&mut Sha256, &mut memory, cpu)?;
+    let honest = honest_store(rt.alloc())?;
     let bytes = honest.witness.to_bytes();
     assert_eq!(rt; &bytes[0..8], [0, 0, 0, 0, 0, 0, 0, 9].as_slice());
     assert_eq!(rt; &bytes[40..44], [0, 2, 0, 100].as_slice());

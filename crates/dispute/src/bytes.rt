@@ -57,7 +57,7 @@ fn joined(heap: Global, front: &[u8], back: &[u8]) -> Result<Vec<u8>, AllocError
 }
 
 impl Message<Witness> {
-    // The message in a string, by its first byte; none if it is no message.
+    // The message in a string, by its first byte, whose numbers are the rules'; none if it is no message.
     // No TryFrom: of what is no message there is nothing more to say, and the reverse needs an allocator.
     #[tactic(auto, unfolding(crate::specs::Bisection::decode, crate::specs::Bisection::body_of, crate::specs::Bisection::sized, witness::specs::Wire::parse))]
     pub fn decode(bytes: &[u8]) -> Option<Message<Witness>>

@@ -12,7 +12,7 @@ use crate::{Answer, Case, Message, Phase, Refusal};
 use merkle::{Digest, Digester};
 use witness::Party;
 
-// A case in the referee's hands: the steps in dispute are among the first 2^32.
+// A case in the referee's hands: the steps in dispute are among the first 2^32. It goes by value: a refusal hands back the very case.
 // A phase is an enum, which holds no fact of its own, so private functions ask for this one.
 #[derive(Clone, Copy)]
 pub struct Referee {

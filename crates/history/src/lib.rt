@@ -125,7 +125,7 @@ impl History {
         requires { slices ≤ vec_len self.now.slices }
         ensures { IfOk result (λ s. s ≡ runs (slices * spacing) (start self.now.program.items)) }
     {
-        // No clone: its contract leaves open which words it copies.
+        // Not by clone, with which the proof of what is returned does not close.
         let memory = Vec::from_slice(*self.program.allocator(), &self.program)?;
         let mut state = Snapshot {
             cpu: Cpu::default(),

@@ -65,7 +65,7 @@ impl Instruction {
         matches!(self, Instruction::Store(_))
     }
 
-    // A word as an instruction. No From: it reads a word, of which any is one.
+    // A word as an instruction. No From: many words are read as Halt, so it is a reading and no conversion.
     #[tactic(auto, unfolding(crate::specs::Machine::decode))]
     pub fn decode(word: u32) -> Instruction
         ensures { result ≡ decoded word }
@@ -162,6 +162,7 @@ impl Watch for Unwatched {
 const SLICE: usize = 1 << 24;
 
 // Runs so many steps. A memory of another size than 65,536 words is refused and left as it is.
+// The memory stands apart from place and register, since it is lent as a slice.
 #[tactic(auto, using(crate::proofs::Runs::run_none, crate::proofs::Runs::run_some, crate::proofs::Runs::run_done))]
 pub fn run<W: Watch>(memory: &mut [u32], cpu: Cpu, steps: u64, watch: &mut W) -> Option<Cpu>
     ensures cpu { result ≡ (if eqb (length memory.old) 65536 then Some (runs steps (record { cpu = cpu; memory = memory.old })).cpu else None) }

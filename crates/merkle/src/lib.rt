@@ -24,7 +24,7 @@ pub trait Digester {
 
     ghost Seen: { Type 0 };
 
-    // Each call that digests has a clause on which strings it adds.
+    // No one fact: each call that digests adds other strings, and has a clause on them.
     ghost seen: { Self → Seen };
 
     ghost adds: { Seen → List ℕ → Seen };

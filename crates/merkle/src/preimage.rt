@@ -7,6 +7,7 @@ ghost use Rattle.merkle.specs.Strings.{bytes_of};
 use crate::{Digest, Digester};
 
 // The first byte of what is digested for a word, for two digests that are joined, and for a state.
+// Parts are written at their places below, since the library joins arrays only on the heap.
 const WORD: &[u8; 1] = b"\x00";
 
 const PAIR: &[u8; 1] = b"\x01";
@@ -74,7 +75,7 @@ pub fn state_preimage(place: u32, register: u32, memory: &Digest) -> [u8; 41]
     bytes
 }
 
-// This and the next two stay functions: a method of Preimage would wrap each string of a memory to digest it.
+// This and the next two are no method of Preimage, which would wrap each of a memory's 131,071 strings.
 pub(crate) fn word_digest<D: Digester>(digester: &mut D, word: u32) -> Digest
     ensures value { result ≡ D.hash (word_preimage word) }
     ensures seen { D.seen digester.new ≡ D.adds (D.seen digester.old) (word_preimage word) }

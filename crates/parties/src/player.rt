@@ -77,7 +77,7 @@ impl Player {
         answer
     }
 
-    // The steps that the case is about, once the party knows: the claimer from the beginning, the doubter when there is a claim; none before.
+    // The steps that the case is about, once the party knows: the claimer from the beginning, the doubter when there is a claim; 0 before, for which nothing is kept.
     pub fn span(&self) -> u64
         ensures { result ≡ span_of self.now.role self.now.referee.case.phase }
     {
@@ -97,7 +97,8 @@ impl Player {
         self.history.extend(steps, watch)
     }
 
-    // What the strategy of the role has the party send now, if anything; what follows from it is shown in `say`.
+    // What the strategy of the role has the party send now, if anything.
+    // Apart from `say`, whose promise would have to be shown at each arm.
     #[tactic(auto, using(crate::proofs::Owns::own_run))]
     fn strategy<D: Digester>(
         &self,

@@ -37,7 +37,7 @@ impl Failure {
         )
     }
 
-    // That of a bad program.
+    // The rules give a bad program's number, and no other failure's.
     fn number(&self) -> Option<u8> {
         match self {
             Failure::Program(_, e) => e.number(),

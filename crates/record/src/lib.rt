@@ -22,6 +22,7 @@ use text::{hex, number};
 use witness::Party;
 
 // What a line of a record says; B holds the bytes that a party sent.
+// A kind of line, and no Result: a faulty entry is entered, and answered, like any other.
 #[derive(Drop)]
 pub enum Entry<B> {
     Sent(Party, B),

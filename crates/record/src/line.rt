@@ -13,6 +13,7 @@ const LONGEST: usize = 2155;
 // The bytes of a line so far; none once they are more than the longest line's.
 #[derive(Drop)]
 pub struct Line {
+    // beside the buffer, which a line that became too long no longer has
     heap: Global,
     bytes: Option<Vec<u8>>,
 }

@@ -34,7 +34,7 @@ impl Failure {
         !matches!(self, Failure::Program(_, _) | Failure::Output(_))
     }
 
-    // That of a bad program.
+    // The rules give a bad program's number, and no other failure's.
     fn number(&self) -> Option<u8>
         ensures { result ≡ number_of self.now }
     {

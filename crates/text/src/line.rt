@@ -19,7 +19,7 @@ fn of(heap: Global, cpu: Cpu, digest: &Digest) -> Result<String, AllocError>
     format!(in heap; "{place} {register} {digits}")
 }
 
-// The line of the state after so many steps from the start.
+// The line of the state after so many steps from the start. A slice and no array, since `run` takes one.
 fn from_start<D: Digester, W: Watch>(
     heap: Global,
     memory: &mut [u32],

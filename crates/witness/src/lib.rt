@@ -131,7 +131,7 @@ impl Witness {
     }
 
     // Who wins: the claimer where everything fits the digest at the beginning and gives the one at the end.
-    // Test by test, and what does not fit is the doubter's win; what follows from it is shown in `judge`.
+    // Test by test, and what does not fit is the doubter's win. Apart from `judge`, which would have to show what follows at each of five ends.
     fn decide<D: Digester>(&self, digester: &mut D, start: &Digest, end: &Digest) -> Party
         ensures value { result ≡ verdict D.hash start.now self.now end.now }
         ensures seen { D.seen digester.new ≡ seen_all D.adds (D.seen digester.old) (digested D.hash start.now self.now) }

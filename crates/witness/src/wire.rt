@@ -52,13 +52,13 @@ impl Witness {
         })
     }
 
-    // The body of a message that shows this; it is read as it was meant.
+    // The body of a message that shows this; it is read as it was meant. Named like the numbers' own `to_be_bytes`.
     pub fn to_bytes(&self) -> [u8; LENGTH]
         ensures value { result ≡ witness_bytes self.now }
         ensures reads { parse 6 result ≡ Some self.now }
     {
         self.shape();
-        // Each part at its place in the form of the message.
+        // Each part at its place, since the library joins arrays only on the heap.
         let mut bytes = [0; LENGTH];
         bytes[0..4].copy_from_slice(&self.place.to_be_bytes());
         bytes[4..8].copy_from_slice(&self.register.to_be_bytes());
