@@ -1,12 +1,9 @@
 use Rattle.std.proofs.Common.{◌+◌, vec_items, drop, sym, ◌∙◌, ap, rules}
-use Rattle.text.proofs.Unhex.{onto, pairs_value, unhex_pairs, unhex_odd, onto_none, pairs_not, pairs_more, pairs_end}
+use Rattle.text.proofs.Unhex.{onto, pairs_value, unhex_pairs, unhex_odd, pairs_not, pairs_more, pairs_end}
 use Rattle.text.proofs.hex.decode.Goals as goal
 
 pub returns-then-not-is_empty : goal.returns-then-not-is_empty
 returns-then-not-is_empty c = sym (unhex_odd c.args.text.now (search rules))
-
-pub loop-high-init : goal.loop-high-init
-loop-high-init c = search (rules, onto_none)
 
 pub loop-high-preserved : goal.loop-high-preserved
 loop-high-preserved c =
