@@ -1,3 +1,4 @@
 mod Lines
+pub mod Holding
 mod Entries
 mod Entered

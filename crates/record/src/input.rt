@@ -1,6 +1,6 @@
 // Lines as they are read from an input.
 ghost use Rattle.std.specs.Prelude.{◌≡◌, ◌-◌, ◌^◌, ◌<◌, false, [], length, drop, IfOk, IfSome, Some, slice_get};
-ghost use Rattle.record.specs.Held.{ReadsLine};
+ghost use Rattle.record.specs.Held.{ReadsLine, nothing};
 
 use crate::Line;
 use std::alloc::AllocError;
@@ -26,7 +26,7 @@ pub fn read_line<R: BufRead, E: From<io::Error> + From<AllocError>>(
     line: &mut Line,
 ) -> Result<bool, E>
     ensures known { IfOk result (λ more. IfSome (R.remaining input.old) (λ xs. length xs < 2 ^ 64 - 1 → ReadsLine xs (R.remaining input.new) more line.new)) }
-    ensures end { IfOk result (λ more. more ≡ false → line.new ≡ Some []) }
+    ensures end { IfOk result (λ more. more ≡ false → line.new ≡ nothing) }
 {
     line.clear();
     // It waits on input: the line ends the loop, never the count.

@@ -1,8 +1,8 @@
 // A line as it comes in, byte by byte, of which no more is held than the longest line has.
-ghost use Rattle.std.specs.Prelude.{◌≡◌, [], ◌∷◌, ◌++◌, OnOk, OnErr, Some, IsTrue, ◌↔◌};
+ghost use Rattle.std.specs.Prelude.{◌≡◌, [], ◌∷◌, ◌++◌, false, length, OnOk, OnErr, Some, IsTrue, ◌↔◌, ◌==◌};
 ghost use Rattle.std.specs.Option.{option_map};
 ghost use Rattle.merkle.specs.Bytes.{Bytes};
-ghost use Rattle.record.specs.Held.{Holds, pushed};
+ghost use Rattle.record.specs.Held.{Holds, nothing, bounded, pushed, whole_line};
 
 use std::alloc::{AllocError, Global};
 use std::marker::Model;
@@ -10,41 +10,45 @@ use std::marker::Model;
 // A step in hexadecimal after the word and a space, and a CR.
 const LONGEST: usize = 2155;
 
-// The bytes of a line so far; none once they are more than the longest line's.
+// The bytes of a line so far, up to the longest line's, and whether there were more.
+// A flag beside the buffer, so that a line that is too long leaves it to the next.
 #[derive(Drop)]
 pub struct Line {
-    // beside the buffer, which a line that became too long no longer has
-    heap: Global,
-    bytes: Option<Vec<u8>>,
+    bytes: Vec<u8>,
+    long: bool,
 }
 
 impl Model for Line {
-    ghost use Rattle.std.specs.Prelude.{ℕ, ◌≤◌, List, IfSome, Option, vec_items, vec_len};
-    ghost use Rattle.std.specs.Option.{option_map};
+    ghost use Rattle.std.specs.Prelude.{◌≡◌, ◌≤◌, IsTrue, vec_items, vec_len};
+    ghost use Rattle.record.specs.Held.{Held};
 
-    ghost Value = { Option (List ℕ) };
+    ghost Value = { Held };
 
-    ghost view = { λ l. option_map vec_items l.bytes };
+    ghost view = { λ l. record { first = vec_items l.bytes; long = l.long } };
 
-    ghost invariant = { λ l. IfSome l.bytes (λ v. vec_len v ≤ 2155) };
+    ghost invariant = { λ l. (vec_len l.bytes ≤ 2155) × (IsTrue l.long → vec_len l.bytes ≡ 2155) };
 }
 
 impl Line {
+    #[tactic(auto, unfolding(crate::specs::Held::holding))]
     pub fn new(heap: Global) -> Line
-        ensures { result ≡ Some [] }
+        ensures value { result ≡ nothing }
+        ensures holds { Holds result [] }
     {
         Line {
-            heap,
-            bytes: Some(Vec::new(heap)),
+            bytes: Vec::new(heap),
+            long: false,
         }
     }
 
     // Another line begins.
+    #[tactic(auto, unfolding(crate::specs::Held::holding))]
     pub fn clear(&mut self)
-        ensures { self.new ≡ Some [] }
+        ensures value { self.new ≡ nothing }
+        ensures holds { Holds self.new [] }
     {
-        let heap = self.heap;
-        self.bytes.get_or_insert_with(|| Vec::new(heap)).clear();
+        self.bytes.clear();
+        self.long = false;
     }
 
     // The line goes on with a byte.
@@ -53,24 +57,27 @@ impl Line {
         ensures holds { OnOk result ((bs : Bytes) → Holds self.old bs → Holds self.new (bs ++ byte ∷ [])) }
         ensures failed { OnErr result (self.new ≡ self.old) }
     {
-        match &mut self.bytes {
-            Some(bytes) if bytes.len() < LONGEST => bytes.push(byte)?,
-            _ => self.bytes = None,
+        if self.bytes.len() < LONGEST {
+            self.bytes.push(byte)?;
+        } else {
+            self.long = true;
         }
         Ok(())
     }
 
     // Whether nothing of it has come.
     pub fn is_empty(&self) -> bool
-        ensures { IsTrue result ↔ self.now ≡ Some [] }
+        ensures value { IsTrue result ↔ whole_line self.now ≡ Some [] }
+        ensures holds { (bs : Bytes) → Holds self.now bs → result ≡ (length bs == 0) }
     {
-        self.bytes.as_ref().is_some_and(|bytes| bytes.is_empty())
+        self.bytes.is_empty()
     }
 
     // The whole line; none where it is too long.
     pub(crate) fn text(&self) -> Option<&[u8]>
-        ensures { option_map (λ x. x.now) result ≡ self.now }
+        ensures value { option_map (λ x. x.now) result ≡ whole_line self.now }
+        ensures holds { (bs : Bytes) → Holds self.now bs → option_map (λ x. x.now) result ≡ bounded bs }
     {
-        self.bytes.as_deref()
+        if self.long { None } else { Some(&self.bytes) }
     }
 }
