@@ -91,14 +91,22 @@ impl Snapshot {
         Ok(changes)
     }
 
-    // Runs on to the end of the next slice, which it makes.
-    fn next_slice(&mut self) -> Result<Slice, AllocError>
+    // Becomes the same as another, in the memory that it has.
+    fn copy_from(&mut self, other: &Snapshot)
+        ensures { self.new ≡ other.now }
+    {
+        self.cpu = other.cpu;
+        self.memory.copy_from_slice(&other.memory);
+    }
+
+    // Runs on to the end of the next slice, which it makes; `before` has the memory for a copy of the beginning.
+    fn next_slice(&mut self, before: &mut Snapshot) -> Result<Slice, AllocError>
         ensures state { OnOk result (self.new ≡ runs spacing self.old) }
         ensures slice { IfOk result (λ x. after x self.old ≡ self.new) }
     {
-        let before = self.clone()?;
+        before.copy_from(self);
         self.run_on(SPACING);
-        let changes = self.changes_since(&before)?;
+        let changes = self.changes_since(before)?;
         let cpu = self.cpu;
         Ok(Slice { cpu, changes })
     }
@@ -139,13 +147,13 @@ impl History {
 
     // Keeps one slice more; `state` is the one at the end of the others, and then at its end.
     #[tactic(auto, using(machine::proofs::Runs::run_add))]
-    fn keep_next(&mut self, state: &mut Snapshot) -> Result<(), AllocError>
+    fn keep_next(&mut self, state: &mut Snapshot, before: &mut Snapshot) -> Result<(), AllocError>
         requires { state.old ≡ runs (vec_len self.old.slices * spacing) (start self.old.program.items) }
         ensures program { self.new.program ≡ self.old.program }
         ensures slices { vec_len self.new.slices ≡ (if is_ok result then vec_len self.old.slices + 1 else vec_len self.old.slices) }
         ensures state { OnOk result (state.new ≡ runs ((vec_len self.old.slices + 1) * spacing) (start self.old.program.items)) }
     {
-        let slice = state.next_slice()?;
+        let slice = state.next_slice(before)?;
         self.slices.push(slice)?;
         Ok(())
     }
@@ -163,8 +171,10 @@ impl History {
             return Ok(());
         }
         let mut state = self.at_end_of(kept)?;
+        // Its memory serves every slice, so that no want of memory comes between two of them.
+        let mut before = state.clone()?;
         for slice in kept as u64..wanted {
-            self.keep_next(&mut state)?;
+            self.keep_next(&mut state, &mut before)?;
             watch.done((slice + 1) * SPACING);
         }
         Ok(())
