@@ -118,8 +118,14 @@ fn small_sigma<const A: u32, const B: u32, const C: u32>(x: u32) -> u32
 fn block_words(block: &[u8; 64]) -> [u32; 16]
     ensures { result ≡ words 16 block.now }
 {
-    let (words, _) = block.as_chunks::<4>();
-    words.as_array::<16>().unwrap().map(u32::from_be_bytes)
+    let (chunks, _) = block.as_chunks::<4>();
+    let chunks = chunks.as_array::<16>().unwrap();
+    let mut words = [0; 16];
+    // Not by `map`, with which digesting took a tenth longer.
+    for (t, word) in words.iter_mut().enumerate() {
+        *word = u32::from_be_bytes(chunks[t]);
+    }
+    words
 }
 
 // The 64 words of the message schedule of a block.
