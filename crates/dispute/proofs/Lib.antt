@@ -4,6 +4,7 @@ pub mod Moves
 pub mod Safe
 pub mod Limits
 mod Dawns
+mod Halvings
 pub mod Kept
 mod Letters
 mod Rested

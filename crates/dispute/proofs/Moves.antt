@@ -65,6 +65,14 @@ module _ (S : System) where
       go None stays e = cc
       go (Some f'') (moves k) e = let z : f'' ≡ f' = cc in subst (λ x. Move f m x) z k
 
+  -- and where no move is possible, the turn is not for it
+  pub stuck : (f : Phase) (m : MessageOf S) → ((f' : Phase) → Move f m f' → ⊥) → None ≡ move S f m
+  stuck f m no' = go (move S f m) (outcome f m)
+    where
+      go : (r : Option Phase) → Outcome f m r → None ≡ r
+      go None stays = refl
+      go (Some f') (moves v) = absurd (no' f' v)
+
   -- a fact of every message that is read, from the six kinds
   module _ (Q : MessageOf S → Type 0) where
     Each : Option (MessageOf S) → Type 0

@@ -38,7 +38,10 @@ pub patched_all : (cs : List Change) (i : ℕ) (m : List ℕ) → length cs ≤ 
 unfolding patched
 patched_all cs i m l = at_drop_all (λ xs. patched xs m) cs i l
 
--- a loop over the places, where cs are the changes so far: at a word that is the same, at one that differs, and at its end
+-- a loop over the places, where cs are the changes so far: none yet, at a word that is the same, at one that differs, and at its end
+pub differing_none : (cs : List Change) (b a : List ℕ) → cs ≡ [] → cs ++ differing 0 (drop 0 b) (drop 0 a) ≡ differing 0 b a
+differing_none cs b a e = ap (λ xs. xs ++ differing 0 b a) e
+
 differing_at : (i : ℕ) (b a : List ℕ) (t : Bool) → i < length b → i < length a → eqb (get_or b i 0) (get_or a i 0) ≡ t →
     differing i (drop i b) (drop i a) ≡
     cond t (differing (i + 1) (drop (i + 1) b) (drop (i + 1) a)) (record { place = i; word = get_or a i 0 } ∷ differing (i + 1) (drop (i + 1) b) (drop (i + 1) a))

@@ -13,7 +13,7 @@ unfolding resumed
 resumed_push [] x s = refl
 resumed_push (y ∷ xs) x s = resumed_push xs x (after y s)
 
--- a loop over slices, at its next one
+-- a loop over slices, at its next one and past its end
 pub resumed_more : (xs : List Slice) (i : ℕ) (x : Slice) (s u t : State) → i < length xs → x ≡ get_or xs i x → u ≡ after x s → resumed (drop i xs) s ≡ t →
     resumed (drop (i + 1) xs) u ≡ t
 unfolding resumed
@@ -21,13 +21,16 @@ resumed_more xs i x s u t l is e inv =
     let rest = drop (i + 1) xs in
     ap (resumed rest) e ∙ ap (λ y. resumed (y ∷ rest) s) is ∙ sym (at_drop_more (λ ys. resumed ys s) xs i x l) ∙ inv
 
+pub resumed_past : (xs : List Slice) (i : ℕ) (s t : State) → length xs ≤ i → resumed (drop i xs) s ≡ t → s ≡ t
+unfolding resumed
+resumed_past xs i s t l inv = sym (at_drop_all (λ ys. resumed ys s) xs i l) ∙ inv
+
 -- and at its end, where it began at the program, with place and register 0, and zs are the n slices
 pub resumed_all : (p m : List ℕ) (xs zs : List Slice) (n i : ℕ) (c : Cpu) (t : State) → Keeps p xs → n ≤ length xs → zs ≡ take n xs → (c.place ≡ 0) × (c.register ≡ 0) → m ≡ p →
     length zs ≤ i → resumed (drop i zs) t ≡ resumed zs (record { cpu = c; memory = m }) → t ≡ run (n * spacing) (start p)
-unfolding resumed
 resumed_all p m xs zs n i c t k l ez es em past inv =
     let z : record { cpu = c; memory = m } ≡ start p = λ j. record { cpu = record { place = es.0 j; register = es.1 j }; memory = em j } in
-    sym (at_drop_all (λ ys. resumed ys t) zs i past) ∙ inv ∙ ap (resumed zs) z ∙ ap (λ ys. resumed ys (start p)) ez ∙ k n l
+    resumed_past zs i t _ past inv ∙ ap (resumed zs) z ∙ ap (λ ys. resumed ys (start p)) ez ∙ k n l
 
 pub keeps_none : (p : List ℕ) (xs : List Slice) → length xs ≡ 0 → Keeps p xs
 unfolding resumed run

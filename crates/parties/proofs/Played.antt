@@ -27,7 +27,7 @@ module _ (S : System) (law : Lawful S) where
   can (Claimer n) ok s v c m e = claimer_can S law s v c n (search rules) (search rules) m e
   can Doubter ok s v c m e = doubter_can S s c m e
 
-  plays : (r : Role) → IsTrue (in_range r) → (c : Case Phase) (said : Option (MessageOf S)) → Plays S r c said
+  pub plays : (r : Role) → IsTrue (in_range r) → (c : Case Phase) (said : Option (MessageOf S)) → Plays S r c said
   plays r ok c said s v is es led = (subst (Promised S s es) (sym led) (right_one_wins S law s v es), keeps)
     where
       keeps : KeptBy S s r es → (m : MessageOf S) → said ≡ Some m → ((take (game S s) c (sends S r m)).1 ≡ Taken) × KeptBy S s r (es ++ sends S r m ∷ [])
@@ -37,6 +37,9 @@ module _ (S : System) (law : Lawful S) where
           let reads : decode S (encode S m) ≡ strategy S s r (play (game S s) (opening (game S s)) es).phase = y.0 ∙ sym has ∙ ap (λ (x : Case Phase). strategy S s r x.phase) led in
           (y.1, follows_last (game S s) (side r) (strategy S s r) (opening (game S s)) es (sends S r m) kept (λ _ _. reads))
 
-pub all_play : {E : Type 0} (h : Hash) → Whole h → (r : Role) → IsTrue (in_range r) → (c : Case Phase) (x : Result (Option (MessageOf (machine h))) E) → IfOk x (λ m. Plays (machine h) r c m)
-all_play h whole r ok c (Ok m) = plays (machine h) (machine_lawful h whole) r ok c m
-all_play h whole r ok c (Err e) = tt
+  pub all_play : {E : Type 0} (r : Role) → IsTrue (in_range r) → (c : Case Phase) (x : Result (Option (MessageOf S)) E) → IfOk x (λ m. Plays S r c m)
+  all_play r ok c (Ok m) = plays r ok c m
+  all_play r ok c (Err e) = tt
+
+pub machine_plays : {E : Type 0} (h : Hash) → Whole h → (r : Role) → IsTrue (in_range r) → (c : Case Phase) (x : Result (Option (MessageOf (machine h))) E) → IfOk x (λ m. Plays (machine h) r c m)
+machine_plays h whole r ok c x = all_play (machine h) (machine_lawful h whole) r ok c x

@@ -138,7 +138,7 @@ impl Player {
     }
 
     // What the party has to send now, if anything.
-    #[tactic(auto, using(crate::proofs::Played::all_play))]
+    #[tactic(auto, using(crate::proofs::Played::machine_plays))]
     pub fn say<D: Digester>(&self, digester: &mut D) -> Result<Option<Message<Witness>>, AllocError>
         ensures value { IfOk result (λ m. m ≡ strategy (machine D.hash) (own self.now.history) self.now.role self.now.referee.case.phase) }
         ensures promise { IfOk result (λ m. Plays (machine D.hash) self.now.role self.now.referee.case m) }
