@@ -1,9 +1,18 @@
 // Bytes as hexadecimal digits.
 ghost use Rattle.std.specs.Prelude.{◌≡◌, ◌<◌, IfSome, IfOk, Some, vec_items, string_bytes};
 ghost use Rattle.std.specs.Option.{option_map};
-ghost use Rattle.text.specs.Text.{hexadecimal, hex_value, hex_pair, unhex};
+ghost use Rattle.text.specs.Text.{hex_digit, hexadecimal, hex_value, hex_pair, unhex};
 
 use std::alloc::{AllocError, Global};
+
+// The digit of a value, lower case.
+fn digit(value: u8) -> char
+    requires { value < 16 }
+    ensures value { result ≡ hex_digit value }
+    ensures ascii { result < 128 }
+{
+    char::from_digit(u32::from(value), 16).unwrap()
+}
 
 // Two lower-case digits for each byte; these are read as the bytes again.
 pub fn encode(heap: Global, bytes: &[u8]) -> Result<String, AllocError>
@@ -12,7 +21,8 @@ pub fn encode(heap: Global, bytes: &[u8]) -> Result<String, AllocError>
 {
     let mut text = String::new(heap);
     for byte in bytes {
-        write!(text, "{byte:02x}")?;
+        text.push(digit(*byte / 16))?;
+        text.push(digit(*byte % 16))?;
     }
     Ok(text)
 }
