@@ -40,13 +40,13 @@ fn claim(body: &[u8]) -> Option<Message<Witness>>
 fn middle(body: &[u8]) -> Option<Message<Witness>>
     ensures { result ≡ sized 32 body.now (Middle body.now) }
 {
-    digest(body).map(Message::Middle)
+    Some(Message::Middle(digest(body)?))
 }
 
 fn step(body: &[u8]) -> Option<Message<Witness>>
     ensures { result ≡ option_map Step (parse 6 body.now) }
 {
-    Witness::from_bytes(body).map(Message::Step)
+    Some(Message::Step(Witness::from_bytes(body)?))
 }
 
 // Two strings as one.
