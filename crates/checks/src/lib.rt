@@ -5,6 +5,8 @@ pub mod digesters;
 #[cfg(test)]
 mod histories;
 #[cfg(test)]
+mod lines;
+#[cfg(test)]
 mod programs;
 #[cfg(test)]
 mod steps;
