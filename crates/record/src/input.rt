@@ -18,6 +18,18 @@ fn next_byte<R: BufRead>(input: &mut R) -> io::Result<Option<u8>>
     Ok(byte)
 }
 
+// After 2^64 - 1 bytes with no line feed, of which no input has so many, the input reads as ended.
+// Out of the loop's way, which otherwise counts twice.
+#[cold]
+#[inline(never)]
+fn gives_up(line: &mut Line) -> bool
+    ensures end { result ≡ false }
+    ensures line { line.new ≡ nothing }
+{
+    line.clear();
+    false
+}
+
 // Reads a line; false at the end of the input. The last line may lack its line feed.
 // A bool and no Option of the line, which the caller holds and lends again.
 // It goes byte by byte, since of a line that is too long no more is held.
@@ -37,7 +49,5 @@ pub fn read_line<R: BufRead, E: From<io::Error> + From<AllocError>>(
             None => return Ok(!line.is_empty()),
         }
     }
-    // 2^64 - 1 bytes with no line feed; no input has so many.
-    line.clear();
-    Ok(false)
+    Ok(gives_up(line))
 }
