@@ -3,7 +3,7 @@ use Rattle.std.proofs.Common.{◌≡◌, ℕ, ◌<◌, ◌≤◌, Bool, true, fa
 use Rattle.std.proofs.lemmas.List.{length-take, length-take-le, length-append, take_all, take-append-le}
 use Rattle.std.proofs.lemmas.Bool.{cond-true, cond-false, lt-ltb, le-ltb, ltb-true, ltb-false, le-leb, lt-leb, cases_Bool}
 use Rattle.merkle.specs.Bytes.{Bytes}
-use Rattle.record.specs.Held.{Held, longest, bounded, holding, Holds, pushed, whole_line}
+use Rattle.record.specs.Held.{Held, longest, bounded, holding, Holds, whole_line}
 
 module _ (n : ℕ) (v bs : Bytes) (l : Bool) (holds : v ≡ take n bs) (more : l ≡ ltb n (length bs)) where
   -- what came fits where less is held, and else fills it

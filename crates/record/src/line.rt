@@ -1,5 +1,5 @@
 // A line as it comes in, byte by byte, of which no more is held than the longest line has.
-ghost use Rattle.std.specs.Prelude.{◌≡◌, [], ◌∷◌, ◌++◌, false, length, OnOk, OnErr, Some, IsTrue, ◌↔◌, ◌==◌};
+ghost use Rattle.std.specs.Prelude.{◌≡◌, [], ◌∷◌, ◌++◌, length, OnOk, OnErr, Some, IsTrue, ◌↔◌, ◌==◌};
 ghost use Rattle.std.specs.Option.{option_map};
 ghost use Rattle.merkle.specs.Bytes.{Bytes};
 ghost use Rattle.record.specs.Held.{Holds, nothing, bounded, pushed, whole_line};
