@@ -171,7 +171,7 @@ impl History {
             return Ok(());
         }
         let mut state = self.at_end_of(kept)?;
-        // Its memory serves every slice, so that no want of memory comes between two of them.
+        // Its memory serves every slice; only what is kept asks for more.
         let mut before = state.clone()?;
         for slice in kept as u64..wanted {
             self.keep_next(&mut state, &mut before)?;

@@ -19,7 +19,7 @@ fn next_byte<R: BufRead>(input: &mut R) -> io::Result<Option<u8>>
 }
 
 // After 2^64 - 1 bytes with no line feed, of which no input has so many, the input reads as ended.
-// Out of the loop's way, which otherwise counts twice.
+// Apart from `read_line`, which with this inside took a tenth longer over a line without end.
 #[cold]
 #[inline(never)]
 fn gives_up(line: &mut Line) -> bool
